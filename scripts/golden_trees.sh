@@ -1,5 +1,5 @@
 #!/usr/bin/env bash
-# The golden cases of scripts/golden/trees.tsv on the built program qs_answers: trees with their marks, and errors with position
+# The golden cases of scripts/golden/trees.tsv on the built program qs_answers: trees, with which texts are owned, and errors with position
 # and text. The steps of a case have to be what `parse_with` is proved to take on an input that it accepts: its length plus one.
 crate=qs_answers
 source "$(dirname "${BASH_SOURCE[0]}")/support/counting.sh"

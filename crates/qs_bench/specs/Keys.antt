@@ -1,6 +1,6 @@
 -- How many keys a tree has.
 use Rattle.std.specs.Prelude.{ℕ, List, [], ◌∷◌, length}
-use Rattle.qs_spec.specs.Segment.{MarkedSegment}
+use Rattle.qs_spec.specs.Segment.{ParsedSegment}
 use Rattle.qs_spec.specs.Tree.{Tree}
 use Rattle.qs_spec.specs.Tree.Tree.{leaf, sequence, mapping, uninitialized}
 use Rattle.qs_tree.specs.tree.Views.{entry_list}
@@ -13,7 +13,7 @@ root_keys (sequence xs) = 0
 root_keys uninitialized = 0
 
 -- at the root of the first key's value
-abbrev pub keys_of_first : List (MarkedSegment × Tree) → ℕ
+abbrev pub keys_of_first : List (ParsedSegment × Tree) → ℕ
 keys_of_first [] = 0
 keys_of_first (p ∷ ps) = root_keys p.1
 

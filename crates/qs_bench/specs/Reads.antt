@@ -10,7 +10,7 @@ use Rattle.qs_bench.specs.Sizes.{size_of}
 
 -- the input has a tree, from which the shape reads the data
 abbrev pub IsReadBy : Shape → List ℕ → Data → Type 0
-IsReadBy shape input d = (tree : Tree) × IsTree default.form default.max_depth input tree × ReadsBy default shape tree d
+IsReadBy shape input d = (tree : Tree) × IsTree default.is_form default.max_depth input tree × ReadsBy default shape tree d
 
 -- there is a load with the number, by which so much is read of the input
 abbrev pub IsRead : ℕ → List ℕ → ℕ → Type 0

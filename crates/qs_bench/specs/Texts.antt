@@ -7,7 +7,7 @@ use Rattle.qs_spec.specs.Written.{written}
 
 -- by the default configuration
 abbrev pub text_of : Data → List ℕ
-text_of d = written default.form false (entries default d).entries
+text_of d = written default.is_form false (entries default d).entries
 
 -- the text's length was returned, and it stands at the front of what was handed in, where it fits there
 abbrev pub IsHandedOut : List ℕ → List ℕ → List ℕ → ℕ → Type 0

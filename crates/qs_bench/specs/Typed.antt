@@ -8,4 +8,4 @@ use Rattle.qs_bench.specs.Texts.{IsWritten}
 
 -- the input is read as a value, whose data were written and their text handed out
 abbrev pub IsReadAndWritten : {A V : Type 0} → (A → V) → Shape → (Data → Option V) → (A → Data) → List ℕ → List ℕ → List ℕ → ℕ → Type 0
-IsReadAndWritten {A} value form meaning datum input before after len = (x : A) × IsRead default form meaning input (value x) × IsWritten (datum x) before after len
+IsReadAndWritten {A} value shape meaning datum input before after len = (x : A) × IsRead default shape meaning input (value x) × IsWritten (datum x) before after len

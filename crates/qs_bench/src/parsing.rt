@@ -22,7 +22,7 @@ pub struct Keys {
 /// Parses the input, counts keys, and drops the tree. Returns whether the input has a tree; if not, nothing is changed.
 #[unsafe(no_mangle)]
 pub extern "C" fn qs_bench_parse(alloc: Global, input: &[u8], keys: &mut Keys) -> bool
-    ensures counted { IsTrue result → (tree : Tree) × IsTree default.form default.max_depth input.now tree
+    ensures counted { IsTrue result → (tree : Tree) × IsTree default.is_form default.max_depth input.now tree
         × (keys.new.root ≡ root_keys tree) × (keys.new.first ≡ first_keys tree) }
     ensures unchanged { IsFalse result → keys.new ≡ keys.old }
 {

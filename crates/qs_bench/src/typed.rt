@@ -32,7 +32,7 @@ pub extern "C" fn qs_bench_person(
     out: &mut [u8],
     len: &mut usize,
 ) -> bool
-    ensures typed { IsTrue result → IsReadAndWritten ⟦<Person as Deserialize>⟧.table.value ⟦<Person as Deserialize>⟧.table.form ⟦<Person as Deserialize>⟧.table.meaning ⟦<Person as Serialize>⟧.datum
+    ensures typed { IsTrue result → IsReadAndWritten ⟦<Person as Deserialize>⟧.table.value ⟦<Person as Deserialize>⟧.table.shape ⟦<Person as Deserialize>⟧.table.meaning ⟦<Person as Serialize>⟧.datum
         input.now out.old out.new len.new }
     ensures unchanged { IsFalse result → (out.new ≡ out.old) × (len.new ≡ len.old) }
 {
@@ -50,7 +50,7 @@ pub extern "C" fn qs_bench_record(
     out: &mut [u8],
     len: &mut usize,
 ) -> bool
-    ensures typed { IsTrue result → IsReadAndWritten ⟦<Record as Deserialize>⟧.table.value ⟦<Record as Deserialize>⟧.table.form ⟦<Record as Deserialize>⟧.table.meaning ⟦<Record as Serialize>⟧.datum
+    ensures typed { IsTrue result → IsReadAndWritten ⟦<Record as Deserialize>⟧.table.value ⟦<Record as Deserialize>⟧.table.shape ⟦<Record as Deserialize>⟧.table.meaning ⟦<Record as Serialize>⟧.datum
         input.now out.old out.new len.new }
     ensures unchanged { IsFalse result → (out.new ≡ out.old) × (len.new ≡ len.old) }
 {
@@ -68,7 +68,7 @@ pub extern "C" fn qs_bench_ids(
     out: &mut [u8],
     len: &mut usize,
 ) -> bool
-    ensures typed { IsTrue result → IsReadAndWritten ⟦<Ids as Deserialize>⟧.table.value ⟦<Ids as Deserialize>⟧.table.form ⟦<Ids as Deserialize>⟧.table.meaning ⟦<Ids as Serialize>⟧.datum
+    ensures typed { IsTrue result → IsReadAndWritten ⟦<Ids as Deserialize>⟧.table.value ⟦<Ids as Deserialize>⟧.table.shape ⟦<Ids as Deserialize>⟧.table.meaning ⟦<Ids as Serialize>⟧.datum
         input.now out.old out.new len.new }
     ensures unchanged { IsFalse result → (out.new ≡ out.old) × (len.new ≡ len.old) }
 {
@@ -86,7 +86,7 @@ pub extern "C" fn qs_bench_map(
     out: &mut [u8],
     len: &mut usize,
 ) -> bool
-    ensures typed { IsTrue result → IsReadAndWritten ⟦<BTreeMap<String, String> as Deserialize>⟧.table.value ⟦<BTreeMap<String, String> as Deserialize>⟧.table.form ⟦<BTreeMap<String, String> as Deserialize>⟧.table.meaning ⟦<BTreeMap<String, String> as Serialize>⟧.datum
+    ensures typed { IsTrue result → IsReadAndWritten ⟦<BTreeMap<String, String> as Deserialize>⟧.table.value ⟦<BTreeMap<String, String> as Deserialize>⟧.table.shape ⟦<BTreeMap<String, String> as Deserialize>⟧.table.meaning ⟦<BTreeMap<String, String> as Serialize>⟧.datum
         input.now out.old out.new len.new }
     ensures unchanged { IsFalse result → (out.new ≡ out.old) × (len.new ≡ len.old) }
 {
@@ -104,7 +104,7 @@ pub extern "C" fn qs_bench_nested(
     out: &mut [u8],
     len: &mut usize,
 ) -> bool
-    ensures typed { IsTrue result → IsReadAndWritten ⟦<Nested as Deserialize>⟧.table.value ⟦<Nested as Deserialize>⟧.table.form ⟦<Nested as Deserialize>⟧.table.meaning ⟦<Nested as Serialize>⟧.datum
+    ensures typed { IsTrue result → IsReadAndWritten ⟦<Nested as Deserialize>⟧.table.value ⟦<Nested as Deserialize>⟧.table.shape ⟦<Nested as Deserialize>⟧.table.meaning ⟦<Nested as Serialize>⟧.datum
         input.now out.old out.new len.new }
     ensures unchanged { IsFalse result → (out.new ≡ out.old) × (len.new ≡ len.old) }
 {
@@ -120,7 +120,7 @@ fn read_and_write<T: RoundTrip + Drop>(
     out: &mut [u8],
     len: &mut usize,
 ) -> bool
-    ensures typed { IsTrue result → IsReadAndWritten T.table.value T.table.form T.table.meaning T.datum input.now out.old out.new len.new }
+    ensures typed { IsTrue result → IsReadAndWritten T.table.value T.table.shape T.table.meaning T.datum input.now out.old out.new len.new }
     ensures unchanged { IsFalse result → (out.new ≡ out.old) × (len.new ≡ len.old) }
 {
     let Ok(value) = last_value::<T>(alloc, times.reads, input) else {
@@ -135,7 +135,7 @@ fn read_and_write<T: RoundTrip + Drop>(
 
 // Reads a value `times` times, at least once. Returns the last one.
 fn last_value<T: RoundTrip + Drop>(alloc: Global, times: usize, input: &[u8]) -> Result<T>
-    ensures { IfOk result (λ x. IsRead default T.table.form T.table.meaning input.now (T.table.value x)) }
+    ensures { IfOk result (λ x. IsRead default T.table.shape T.table.meaning input.now (T.table.value x)) }
 {
     for _ in 1..times {
         let _value: T = from_bytes(alloc, input)?;

@@ -39,7 +39,7 @@ are_bytes : (reject_duplicates : Bool) (t : Tree) (x : d.Data) → reads reject_
 unfolding reads
 are_bytes reject_duplicates (leaf NoValue) x h = subst AreBytes (same_Some (d.bytes []) x h) tt
 are_bytes reject_duplicates (leaf Null) x h = subst AreBytes (same_Some (d.bytes []) x h) tt
-are_bytes reject_duplicates (leaf (Text bytes mark)) x h = subst AreBytes (same_Some (d.bytes bytes) x h) tt
+are_bytes reject_duplicates (leaf (Text bytes escaped)) x h = subst AreBytes (same_Some (d.bytes bytes) x h) tt
 are_bytes reject_duplicates (sequence xs) x h = some_bytes (last_item reject_duplicates xs) x h
 are_bytes reject_duplicates (mapping es) x h = absurd cc
 are_bytes reject_duplicates uninitialized x h = absurd cc
@@ -74,7 +74,7 @@ no_other x are not =
     not v (sym rolled ∙ ap roll-Data is ∙ named))
 
 -- where it reads nothing from the node to which the path leads
-module _ (config : Config) (path : List Segment) (input : List ℕ) (tree : Tree) (is_tree : IsTree config.form config.max_depth input tree) (node : Tree) (leads : node_at path tree ≡ Some node) where
+module _ (config : Config) (path : List Segment) (input : List ℕ) (tree : Tree) (is_tree : IsTree config.is_form config.max_depth input tree) (node : Tree) (leads : node_at path tree ≡ Some node) where
   leads_there : LeadsTo config path input (Some node)
   leads_there = record {
     tree = tree;

@@ -58,15 +58,15 @@ module _ (inner : Parser Shape) (t : List ℕ) where
           unfolding n.map
           map-close why r h = then-found _ _ _ tt a opened (then-found _ _ _ k b keys (then-found _ _ _ tt d comma (then-found _ _ _ s e value (then-fault _ _ why r h))))
 
-  -- a field: its name, perhaps a mark, a colon and its shape
-  module _ (name a m : List ℕ) (named : n.name t ≡ found name a) (mark : m ≡ n.optional_mark a) where
+  -- a field: its name, perhaps a question mark, a colon and its shape
+  module _ (name a m : List ℕ) (named : n.name t ≡ found name a) (question : m ≡ n.question_mark a) where
     pub field-colon : (why r : List ℕ) → n.wanted 58 (codes "`:` is wanted") m ≡ fault why r → n.field inner t ≡ fault why r
     unfolding n.field
-    field-colon why r e = then-found _ _ _ name a named (then-fault _ _ why r (ap (n.wanted 58 (codes "`:` is wanted")) (sym mark) ∙ e))
+    field-colon why r e = then-found _ _ _ name a named (then-fault _ _ why r (ap (n.wanted 58 (codes "`:` is wanted")) (sym question) ∙ e))
 
     module _ (b : List ℕ) (colon : n.wanted 58 (codes "`:` is wanted") m ≡ found tt b) where
-      opened : n.wanted 58 (codes "`:` is wanted") (n.optional_mark a) ≡ found tt b
-      opened = ap (n.wanted 58 (codes "`:` is wanted")) (sym mark) ∙ colon
+      opened : n.wanted 58 (codes "`:` is wanted") (n.question_mark a) ≡ found tt b
+      opened = ap (n.wanted 58 (codes "`:` is wanted")) (sym question) ∙ colon
 
       pub field-found : (s : Shape) (d : List ℕ) (optional : Bool) → inner b ≡ found s d → optional ≡ n.comes 63 a → n.field inner t ≡ found (name, s, optional) d
       unfolding n.field

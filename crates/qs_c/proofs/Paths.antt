@@ -10,7 +10,7 @@ use Rattle.std.specs.declared.borrow.CowSlice.{CowSlice}
 use Rattle.std.specs.declared.borrow.CowSlice.TheVariants.{Borrowed, Owned}
 use Rattle.qs_spec.specs.Holds.{nesting, entries_nesting}
 use Rattle.qs_spec.specs.Leaf.Leaf.{NoValue, Null, Text}
-use Rattle.qs_spec.specs.Segment.{MarkedSegment, Segment}
+use Rattle.qs_spec.specs.Segment.{ParsedSegment, Segment}
 use Rattle.qs_spec.specs.Tree.{Tree, Entries}
 use Rattle.qs_spec.specs.Tree.Tree.{leaf, sequence, mapping, uninitialized}
 use Rattle.qs_spec.specs.Tree.Entries.{no_entries, entry}
@@ -22,10 +22,10 @@ use Rattle.qs_explain.specs.Children.{first_there}
 use Rattle.qs_c.specs.Paths.{child, index_of, item_at}
 
 -- what stands below the first entry nests less
-pub falls : (es : Entries) (x : MarkedSegment × Tree) → slice_get (entry_list es) 0 ≡ Some x → nesting x.1 < nesting (mapping es)
+pub falls : (es : Entries) (x : ParsedSegment × Tree) → slice_get (entry_list es) 0 ≡ Some x → nesting x.1 < nesting (mapping es)
 falls no_entries x h = absurd cc
 falls (entry k m t es) x h =
-    let same : nesting t ≡ nesting x.1 = ap (λ (y : MarkedSegment × Tree). nesting y.1) (same_Some (record { seg = k; mark = m }, t) x h) in
+    let same : nesting t ≡ nesting x.1 = ap (λ (y : ParsedSegment × Tree). nesting y.1) (same_Some (record { segment = k; escaped = m }, t) x h) in
     let least = le-max_left (nesting t) (entries_nesting es) in
     omega (arith, same, least)
 
@@ -48,9 +48,9 @@ module _ (k : Segment) where
   sequence_child i ts r is h = value_there ts i r h ∙ sym (ap (option_and_then (λ j. item_at j (sequence (items_of ts)))) is)
 
   -- of a text
-  no_leaf_child : (bytes : List ℕ) (mark : Bool) (i : ℕ) → index_of k ≡ Some i → (i ≡ 0 → ⊥) → child k (leaf (Text bytes mark)) ≡ None
-  no_leaf_child bytes mark zero is other = absurd (other refl)
-  no_leaf_child bytes mark (suc i) is other = ap (option_and_then (λ j. item_at j (leaf (Text bytes mark)))) is ∙ none_after i
+  no_leaf_child : (bytes : List ℕ) (escaped : Bool) (i : ℕ) → index_of k ≡ Some i → (i ≡ 0 → ⊥) → child k (leaf (Text bytes escaped)) ≡ None
+  no_leaf_child bytes escaped zero is other = absurd (other refl)
+  no_leaf_child bytes escaped (suc i) is other = ap (option_and_then (λ j. item_at j (leaf (Text bytes escaped)))) is ∙ none_after i
 
   pub no_text_child : (s : CowSlice ℕ Global) (i : ℕ) → index_of k ≡ Some i → (i ≡ 0 → ⊥) → child k (tree_of (String s)) ≡ None
   no_text_child (Borrowed r) i is other =

@@ -135,13 +135,13 @@ key t =
 -- The parsers below take a parser of the shapes within.
 
 -- what follows a `?`, if there is one
-abbrev pub optional_mark : List ℕ → List ℕ
-optional_mark t = cond (comes 63 t) (after_sign t) t
+abbrev pub question_mark : List ℕ → List ℕ
+question_mark t = cond (comes 63 t) (after_sign t) t
 
 -- a field: its name, `?` if it may be left out, `:` and its shape
 unfoldable pub field : Parser Shape → Parser Field
 field inner t =
-    and_then (name t) (λ n rest. and_then (wanted 58 (codes "`:` is wanted") (optional_mark rest)) (λ u value. seen (λ s. (n, s, comes 63 rest)) (inner value)))
+    and_then (name t) (λ n rest. and_then (wanted 58 (codes "`:` is wanted") (question_mark rest)) (λ u value. seen (λ s. (n, s, comes 63 rest)) (inner value)))
 
 -- fields, after the brace that opens them
 unfoldable pub fields : Parser Shape → Parser (List Field)

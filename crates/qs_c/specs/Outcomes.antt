@@ -21,7 +21,7 @@ use Rattle.qs_c.specs.Taken.{IsJsonOf}
 
 -- the input has a tree, and the shape reads the data from it
 abbrev pub IsReadBy : Config → Shape → List ℕ → Data → Type 0
-IsReadBy config shape input x = (tree : Tree) × IsTree config.form config.max_depth input tree × ReadsBy config shape tree x
+IsReadBy config shape input x = (tree : Tree) × IsTree config.is_form config.max_depth input tree × ReadsBy config shape tree x
 
 -- the text is the JSON of the data that the shape reads
 abbrev pub IsRead : Config → Shape → List ℕ → List ℕ → Type 0
@@ -33,11 +33,11 @@ IsReadByText config notation input text = (shape : Shape) × IsNotation notation
 
 -- the input has a tree, and the shape reads nothing from it
 abbrev pub IsUnread : Config → Shape → List ℕ → Type 0
-IsUnread config shape input = (tree : Tree) × IsTree config.form config.max_depth input tree × ReadsNothing config shape tree
+IsUnread config shape input = (tree : Tree) × IsTree config.is_form config.max_depth input tree × ReadsNothing config shape tree
 
 -- the input has no tree, and the position is at most one beyond its end
 abbrev pub IsRejected : Config → List ℕ → ℕ → Type 0
-IsRejected config input position = HasNoTree config.form config.max_depth input × (position ≤ length input + 1)
+IsRejected config input position = HasNoTree config.is_form config.max_depth input × (position ≤ length input + 1)
 
 -- what holds if an input isn't read, with an error of this kind at this position; only a syntax error has a position other than 0
 abbrev pub WhyUnread : FailureKind → ℕ → Config → Shape → List ℕ → Type 0
@@ -71,7 +71,7 @@ pub record IsWritten (config : Config) (json text : List ℕ) : Type 0 where
   pub value : Data
   pub is_value : IsJsonOf json value
   pub is_whole : (entries config value).error ≡ None
-  pub is_text : text ≡ written config.form false (entries config value).entries
+  pub is_text : text ≡ written config.is_form false (entries config value).entries
 
 -- what holds if data isn't written, with an error of this kind at this position
 abbrev pub WhyUnwritten : FailureKind → ℕ → Config → Data → Type 0

@@ -22,24 +22,24 @@ use Rattle.qs_c.specs.Settings.{config_of, AreNone}
 -- the tree of a key without a value: one entry below the other
 abbrev pub is_key : Tree → Bool
 is_key (leaf NoValue) = true
-is_key (mapping (entry k mark t no_entries)) = is_key t
+is_key (mapping (entry k escaped t no_entries)) = is_key t
 is_key _ = false
 
 -- the segments of the first key of a tree
 abbrev pub first_path : Tree → List Segment
-first_path (mapping (entry k mark t es)) = k ∷ first_path t
+first_path (mapping (entry k escaped t es)) = k ∷ first_path t
 first_path _ = []
 
 -- the text is a key with these segments
 pub record IsPath (config : Config) (text : List ℕ) (path : List Segment) : Type 0 where
   pub tree : Tree
-  pub is_tree : IsTree config.form config.max_depth text tree
+  pub is_tree : IsTree config.is_form config.max_depth text tree
   pub is_key : IsTrue (is_key tree)
   pub segments : path ≡ first_path tree
 
 -- the text isn't a key: it can't be parsed, or has a value or several pairs
 abbrev pub IsNoPath : Config → List ℕ → Type 0
-IsNoPath config text = HasNoTree config.form config.max_depth text ⊎ ((tree : Tree) × IsTree config.form config.max_depth text tree × IsFalse (is_key tree))
+IsNoPath config text = HasNoTree config.is_form config.max_depth text ⊎ ((tree : Tree) × IsTree config.is_form config.max_depth text tree × IsFalse (is_key tree))
 
 -- the item at an index of a node that is a list
 abbrev pub item_at : ℕ → Tree → Option Tree
@@ -63,7 +63,7 @@ node_at (k ∷ path) t = option_and_then (node_at path) (child k t)
 -- in the tree of the input the segments lead to this node, or nowhere if it is `None`
 pub record LeadsTo (config : Config) (path : List Segment) (input : List ℕ) (node : Option Tree) : Type 0 where
   pub tree : Tree
-  pub is_tree : IsTree config.form config.max_depth input tree
+  pub is_tree : IsTree config.is_form config.max_depth input tree
   pub is_node : node_at path tree ≡ node
 
 -- the segments lead to a node from which these bytes are read

@@ -20,7 +20,7 @@ duplicates_of false = take_last
 abbrev pub config_of : Settings → Config
 config_of s = record {
   max_depth = s.max_depth;
-  form = s.form;
+  is_form = s.form;
   array_format = format_of s.array_format;
   duplicates = duplicates_of s.reject_duplicates;
 }

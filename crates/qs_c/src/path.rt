@@ -18,7 +18,7 @@ pub(crate) fn parse_path(
     config: Config,
     path: &[u8],
 ) -> Result<ParsedValue<'_>, Failure>
-    ensures tree { IfOk result (λ tree. IsTree config.form config.max_depth path.now (tree_of tree)) }
+    ensures tree { IfOk result (λ tree. IsTree config.is_form config.max_depth path.now (tree_of tree)) }
     ensures key { IfOk result (λ tree. IsTrue (is_key (tree_of tree))) }
     ensures none { IfErr result (λ failure. IsOutOfMemory failure ⊎ ((failure.kind ≡ kind.Path) × (failure.position ≡ 0) × IsNoPath config path.now × (text_of failure ≡ no_path_text))) }
 {

@@ -1,5 +1,7 @@
 //! Reading.
 
+#![tactic(auto, using(crate::proofs::Messages::read_result))]
+
 ghost use Rattle.std.specs.Prelude.{◌≡◌, true, List, ℕ, length, IfOk, IfErr};
 ghost use Rattle.std.specs.Str.{IsUtf8};
 ghost use Rattle.qs_spec.specs.Shape.{is_distinct};
@@ -109,7 +111,6 @@ pub extern "C" fn qs_read(
 }
 
 // Returns the JSON of what `any` reads.
-#[tactic(auto, using(crate::proofs::Messages::read_result))]
 fn parsed(alloc: Global, settings: &Settings, input: &[u8]) -> Result<Vec<u8>, Failure>
     ensures text { IfOk result (λ text. IsRead (config_of settings.now) any input.now text.items) }
     ensures none { IfErr result (λ failure. WhyNotParsed failure.kind failure.position settings.now input.now) }
@@ -127,7 +128,6 @@ fn parsed(alloc: Global, settings: &Settings, input: &[u8]) -> Result<Vec<u8>, F
 }
 
 // Parses the shape, and returns the JSON of what it reads.
-#[tactic(auto, using(crate::proofs::Messages::read_result))]
 fn read(alloc: Global, settings: &Settings, shape: &[u8], input: &[u8]) -> Result<Vec<u8>, Failure>
     ensures text { IfOk result (λ text. IsReadByText (config_of settings.now) shape.now input.now text.items) }
     ensures none { IfErr result (λ failure. WhyNotRead failure.kind failure.position settings.now shape.now input.now) }

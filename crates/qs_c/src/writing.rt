@@ -82,7 +82,7 @@ fn written(alloc: Global, settings: &Settings, json: &[u8]) -> Result<Vec<u8>, F
 // Returns the data as a querystring.
 fn text_of(alloc: Global, config: Config, datum: &Data) -> qs_data::Result<Vec<u8>>
     ensures whole { IfOk result (λ text. (entries config (data_of datum.now)).error ≡ None) }
-    ensures text { IfOk result (λ text. text.items ≡ written config.form false (entries config (data_of datum.now)).entries) }
+    ensures text { IfOk result (λ text. text.items ≡ written config.is_form false (entries config (data_of datum.now)).entries) }
     ensures none { IfErr result (λ error. WhyUnwritten (kind_of error) (position_of error) config (data_of datum.now)) }
     ensures errors { IfErr result (IsUnwritten config.max_depth) }
 {

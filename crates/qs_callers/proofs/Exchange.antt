@@ -17,17 +17,17 @@ use Rattle.serde_qs.specs.WrittenText.{text_of}
 use Rattle.serde_qs.specs.internal.OwnTables.{own_back, own_fit}
 
 same_value : {X V : Type 0} (datum : X → Data) (meaning : Data → Option V) (value : X → V) → ComesBack datum meaning value
-    → (mode : Bool) (x : X) → is_plain mode (datum x) ≡ true → (result : Result X Error) → ReturnsSame value meaning (datum x) result → IsValue value (value x) result
-same_value datum meaning value back mode x plain (Ok y) same =
-    same_Some (value y) (value x) (sym same.2 ∙ back mode x same.0 plain same.1)
-same_value datum meaning value back mode x plain (Err (Custom message)) same = none-some (value x) (sym same.2 ∙ back mode x same.0 plain same.1)
-same_value datum meaning value back mode x plain (Err (Utf8 cause)) same = none-some (value x) (sym same.2 ∙ back mode x same.0 plain same.1)
-same_value datum meaning value back mode x plain (Err OutOfMemory) same = tt
-same_value datum meaning value back mode x plain (Err _) same = absurd same
+    → (is_form : Bool) (x : X) → is_plain is_form (datum x) ≡ true → (result : Result X Error) → ReturnsSame value meaning (datum x) result → IsValue value (value x) result
+same_value datum meaning value back is_form x plain (Ok y) same =
+    same_Some (value y) (value x) (sym same.2 ∙ back is_form x same.0 plain same.1)
+same_value datum meaning value back is_form x plain (Err (Custom message)) same = none-some (value x) (sym same.2 ∙ back is_form x same.0 plain same.1)
+same_value datum meaning value back is_form x plain (Err (Utf8 cause)) same = none-some (value x) (sym same.2 ∙ back is_form x same.0 plain same.1)
+same_value datum meaning value back is_form x plain (Err OutOfMemory) same = tt
+same_value datum meaning value back is_form x plain (Err _) same = absurd same
 
 pub exchanged : {X : Type 0} (t : Table X) (datum : X → Data) → ((x : X) → t.datum x ≡ datum x) → (x : X) → IsPlainWithin default (datum x)
-    → (input : List ℕ) → input ≡ text_of default (datum x) → (result : Result X Error) → ReturnsWritten t.value default t.form t.meaning input result → IsValue t.value (t.value x) result
+    → (input : List ℕ) → input ≡ text_of default (datum x) → (result : Result X Error) → ReturnsWritten t.value default t.shape t.meaning input result → IsValue t.value (t.value x) result
 exchanged t datum same x plain input is result returned =
-    let fitting : IsPlainFor default t.form (datum x) = record { plain = plain.plain; fits = own_fit t datum same default.form x plain.plain; whole = plain.whole } in
-    same_value datum t.meaning t.value (own_back t datum same) default.form x plain.plain result
+    let fitting : IsPlainFor default t.shape (datum x) = record { plain = plain.plain; fits = own_fit t datum same default.is_form x plain.plain; whole = plain.whole } in
+    same_value datum t.meaning t.value (own_back t datum same) default.is_form x plain.plain result
     (returned.returns (datum x) (entries default (datum x)).entries fitting (inl (refl, IsPermutation-refl (entries default (datum x)).entries)) is)

@@ -10,7 +10,7 @@ use Rattle.serde_qs.specs.Typed.{IsRead, IsUnread}
 
 -- the value that is read from the input; or words, exactly if no value is read from it; or an allocation failed
 abbrev pub Replies : {X V W : Type 0} → (X → V) → Config → Shape → (Data → Option V) → List ℕ → Result (Result X W) Error → Type 0
-Replies view config form meaning input (Ok (Ok x)) = IsRead config form meaning input (view x)
-Replies view config form meaning input (Ok (Err words)) = HasNoTree config.form config.max_depth input ⊎ IsUnread config form meaning input
-Replies view config form meaning input (Err OutOfMemory) = ⊤
-Replies view config form meaning input (Err _) = ⊥
+Replies view config shape meaning input (Ok (Ok x)) = IsRead config shape meaning input (view x)
+Replies view config shape meaning input (Ok (Err words)) = HasNoTree config.is_form config.max_depth input ⊎ IsUnread config shape meaning input
+Replies view config shape meaning input (Err OutOfMemory) = ⊤
+Replies view config shape meaning input (Err _) = ⊥

@@ -21,7 +21,7 @@ const NAMES: &[&str] = &["firstName", "lastName", "user-id"];
 impl Compound for Account {
     ghost table = { made_of ⟦<AccountParts as Parts>⟧.table NAMES.now (λ account. record { 0 = (account.first_name, (account.last_name, (account.id, tt))) }) _ };
 
-    fn form(alloc: Global) -> Result<Shape> {
+    fn parts_shape(alloc: Global) -> Result<Shape> {
         AccountParts::shape(alloc, NAMES)
     }
 
@@ -34,7 +34,7 @@ impl Compound for Account {
         })
     }
 
-    fn written(&self, out: Out) -> WriteResult {
+    fn write_parts(&self, out: Out) -> WriteResult {
         out.fields(NAMES, (&self.first_name, (&self.last_name, (&self.id, ()))))
     }
 }

@@ -20,7 +20,7 @@ const NAMES: &[&str] = &["street", "city"];
 impl Compound for Address {
     ghost table = { made_of ⟦<AddressParts as Parts>⟧.table NAMES.now (λ address. record { 0 = (address.street, (address.city, tt)) }) _ };
 
-    fn form(alloc: Global) -> Result<Shape> {
+    fn parts_shape(alloc: Global) -> Result<Shape> {
         AddressParts::shape(alloc, NAMES)
     }
 
@@ -29,7 +29,7 @@ impl Compound for Address {
         Ok(Address { street, city })
     }
 
-    fn written(&self, out: Out) -> WriteResult {
+    fn write_parts(&self, out: Out) -> WriteResult {
         out.fields(NAMES, (&self.street, (&self.city, ())))
     }
 }

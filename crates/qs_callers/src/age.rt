@@ -30,7 +30,7 @@ impl Age {
 impl Compound for Age {
     ghost table = { table_of (λ age. age.years) (λ age. d.unsigned age.years) (s.Shape.unsigned 8) (unsigned_in 149) refl (λ age e _ p. unsigned_back 149 age.years e (le-leb age.years 149 age.is_allowed) p) };
 
-    fn form(alloc: Global) -> Result<Shape> {
+    fn parts_shape(alloc: Global) -> Result<Shape> {
         u8::shape(alloc)
     }
 
@@ -44,7 +44,7 @@ impl Compound for Age {
         }
     }
 
-    fn written(&self, out: Out) -> WriteResult {
+    fn write_parts(&self, out: Out) -> WriteResult {
         out.value(&self.years)
     }
 }

@@ -21,7 +21,7 @@ pub fn asked(alloc: Global, input: &str) -> Result<Query>
 
 /// Returns the order that is read from a querystring.
 pub fn sorted(alloc: Global, input: &str) -> Result<Sort>
-    ensures { ReturnsValue ⟦<Sort as Compound>⟧.table.value default ⟦<Sort as Compound>⟧.table.form ⟦<Sort as Compound>⟧.table.meaning input.now result }
+    ensures { ReturnsValue ⟦<Sort as Compound>⟧.table.value default ⟦<Sort as Compound>⟧.table.shape ⟦<Sort as Compound>⟧.table.meaning input.now result }
 {
     from_str(alloc, input)
 }

@@ -22,7 +22,7 @@ const NAMES: &[&str] = &["title", "values"];
 impl Compound for Chart {
     ghost table = { made_of ⟦<ChartParts as Parts>⟧.table NAMES.now (λ chart. record { 0 = (chart.title, (chart.values, tt)) }) _ };
 
-    fn form(alloc: Global) -> Result<Shape> {
+    fn parts_shape(alloc: Global) -> Result<Shape> {
         ChartParts::shape(alloc, NAMES)
     }
 
@@ -31,7 +31,7 @@ impl Compound for Chart {
         Ok(Chart { title, values })
     }
 
-    fn written(&self, out: Out) -> WriteResult {
+    fn write_parts(&self, out: Out) -> WriteResult {
         out.fields(NAMES, (&self.title, (&self.values, ())))
     }
 }

@@ -19,7 +19,7 @@ pub fn target<T: RoundTrip>(alloc: Global, path: &str, value: &T) -> Result<Stri
 
 /// Returns what a server reads from the query of a request target, or from the empty query if there is none.
 pub fn served<T: RoundTrip>(alloc: Global, target: &str) -> Result<T>
-    ensures { ReturnsValue T.table.value default T.table.form T.table.meaning (query_behind target.now) result }
+    ensures { ReturnsValue T.table.value default T.table.shape T.table.meaning (query_behind target.now) result }
 {
     let (_path, query) = target.split_once('?').unwrap_or((target, ""));
     from_str(alloc, query)

@@ -22,7 +22,7 @@ const NAMES: &[&str] = &["a", "b"];
 impl Compound for Columns {
     ghost table = { made_of ⟦<ColumnsParts as Parts>⟧.table NAMES.now (λ columns. record { 0 = (columns.left, (columns.right, tt)) }) _ };
 
-    fn form(alloc: Global) -> Result<Shape> {
+    fn parts_shape(alloc: Global) -> Result<Shape> {
         ColumnsParts::shape(alloc, NAMES)
     }
 
@@ -31,7 +31,7 @@ impl Compound for Columns {
         Ok(Columns { left, right })
     }
 
-    fn written(&self, out: Out) -> WriteResult {
+    fn write_parts(&self, out: Out) -> WriteResult {
         out.fields(NAMES, (&self.left, (&self.right, ())))
     }
 }

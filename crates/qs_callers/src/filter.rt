@@ -23,7 +23,7 @@ const NAMES: &[&str] = &["text", "page", "size"];
 impl Compound for Filter {
     ghost table = { made_of ⟦<FilterParts as Parts>⟧.table NAMES.now (λ filter. record { 0 = (filter.text, (record { 0 = filter.page }, (record { 0 = filter.size }, tt))) }) _ };
 
-    fn form(alloc: Global) -> Result<Shape> {
+    fn parts_shape(alloc: Global) -> Result<Shape> {
         FilterParts::shape(alloc, NAMES)
     }
 
@@ -32,7 +32,7 @@ impl Compound for Filter {
         Ok(Filter { text, page, size })
     }
 
-    fn written(&self, out: Out) -> WriteResult {
+    fn write_parts(&self, out: Out) -> WriteResult {
         out.fields(NAMES, fields!(self; text, page?, size?))
     }
 }

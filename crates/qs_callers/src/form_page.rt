@@ -29,7 +29,7 @@ pub fn submitted<T: Deserialize>(
     alloc: Global,
     form: &[u8],
 ) -> Result<std::result::Result<T, FieldError>>
-    ensures { Replies T.table.value (record default { form = true }) T.table.form T.table.meaning form.now result }
+    ensures { Replies T.table.value (record default { is_form = true }) T.table.shape T.table.meaning form.now result }
 {
     let config = Config::new().use_form_encoding(true);
     match read_explained(alloc, config, form)? {

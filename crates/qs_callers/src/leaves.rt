@@ -18,8 +18,8 @@ struct Place<'t, 'qs> {
 /// Returns the paths of a querystring's leaves, a line each: `["user"]["ids"][0]` for `user[ids][0]=7`. It returns the same
 /// errors as `parse`.
 pub fn leaf_paths(alloc: Global, input: &str) -> Result<String>
-    ensures no_tree { IsParse result → HasNoTree default.form default.max_depth input.now }
-    ensures rejected { HasNoTree default.form default.max_depth input.now → IsParse result ⊎ IsOutOfMemory result }
+    ensures no_tree { IsParse result → HasNoTree default.is_form default.max_depth input.now }
+    ensures rejected { HasNoTree default.is_form default.max_depth input.now → IsParse result ⊎ IsOutOfMemory result }
 {
     let tree = parse(alloc, input.as_bytes(), Config::new())?;
     let mut lines = String::new(alloc);

@@ -23,7 +23,7 @@ const NAMES: &[&str] = &["text", "page", "sort", "short"];
 impl Compound for Listing {
     ghost table = { made_of ⟦<ListingParts as Parts>⟧.table NAMES.now (λ listing. record { 0 = (listing.text, (listing.page, (listing.sort, (listing.is_short, tt)))) }) _ };
 
-    fn form(alloc: Global) -> Result<Shape> {
+    fn parts_shape(alloc: Global) -> Result<Shape> {
         ListingParts::shape(alloc, NAMES)
     }
 
@@ -37,7 +37,7 @@ impl Compound for Listing {
         })
     }
 
-    fn written(&self, out: Out) -> WriteResult {
+    fn write_parts(&self, out: Out) -> WriteResult {
         out.fields(NAMES, fields!(self; text, page, sort, is_short))
     }
 }

@@ -12,7 +12,7 @@ use std::alloc::{AllocError, Global};
 /// The only error is that an allocation failed.
 #[tactic(auto, using(crate::proofs::Unread::unread))]
 pub fn explained<T: Deserialize>(alloc: Global, input: &str) -> Result<Result<T, String>, Error>
-    ensures { Replies T.table.value default T.table.form T.table.meaning input.now result }
+    ensures { Replies T.table.value default T.table.shape T.table.meaning input.now result }
 {
     match read_explained(alloc, Config::new(), input.as_bytes())? {
         Ok(value) => Ok(Ok(value)),

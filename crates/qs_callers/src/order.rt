@@ -29,7 +29,7 @@ const NAMES: &[&str] = &["name", "address", "items"];
 impl Compound for Order {
     ghost table = { made_of ⟦<OrderParts as Parts>⟧.table NAMES.now (λ order. record { 0 = (order.name, (order.address, (order.items, tt))) }) _ };
 
-    fn form(alloc: Global) -> Result<Shape> {
+    fn parts_shape(alloc: Global) -> Result<Shape> {
         OrderParts::shape(alloc, NAMES)
     }
 
@@ -42,14 +42,14 @@ impl Compound for Order {
         })
     }
 
-    fn written(&self, out: Out) -> WriteResult {
+    fn write_parts(&self, out: Out) -> WriteResult {
         out.fields(NAMES, (&self.name, (&self.address, (&self.items, ()))))
     }
 }
 
 /// Returns the order in a body of the type `application/x-www-form-urlencoded`.
 pub fn ordered(alloc: Global, body: &[u8]) -> Result<QsForm<Order>>
-    ensures { ReturnsValue (λ form. ⟦<Order as Deserialize>⟧.table.value form.0) (record default { form = true }) ⟦<Order as Deserialize>⟧.table.form ⟦<Order as Deserialize>⟧.table.meaning body.now result }
+    ensures { ReturnsValue (λ form. ⟦<Order as Deserialize>⟧.table.value form.0) (record default { is_form = true }) ⟦<Order as Deserialize>⟧.table.shape ⟦<Order as Deserialize>⟧.table.meaning body.now result }
 {
     let config = Config::new().use_form_encoding(true);
     Ok(QsForm(config.deserialize_bytes(alloc, body)?))

@@ -20,7 +20,7 @@ type PageParts = Newtype<u32>;
 impl Compound for Page {
     ghost table = { made_of ⟦<PageParts as Parts>⟧.table [] (λ page. record { 0 = page.0 }) _ };
 
-    fn form(alloc: Global) -> Result<Shape> {
+    fn parts_shape(alloc: Global) -> Result<Shape> {
         PageParts::shape(alloc, &[])
     }
 
@@ -29,7 +29,7 @@ impl Compound for Page {
         Ok(Page(number))
     }
 
-    fn written(&self, out: Out) -> WriteResult {
+    fn write_parts(&self, out: Out) -> WriteResult {
         out.newtype(&self.0)
     }
 }
@@ -57,7 +57,7 @@ const NAMES: &[&str] = &["text", "page", "short"];
 impl Compound for Paging {
     ghost table = { made_of ⟦<PagingParts as Parts>⟧.table NAMES.now (λ paging. record { 0 = (paging.text, (record { 0 = paging.page }, (record { 0 = paging.is_short }, tt))) }) _ };
 
-    fn form(alloc: Global) -> Result<Shape> {
+    fn parts_shape(alloc: Global) -> Result<Shape> {
         PagingParts::shape(alloc, NAMES)
     }
 
@@ -72,7 +72,7 @@ impl Compound for Paging {
         })
     }
 
-    fn written(&self, out: Out) -> WriteResult {
+    fn write_parts(&self, out: Out) -> WriteResult {
         out.fields(NAMES, fields!(self; text, page, is_short))
     }
 }

@@ -20,7 +20,7 @@ const NAMES: &[&str] = &["a", "b"];
 impl<A: RoundTrip + Drop, B: RoundTrip + Drop> Compound for Pair<A, B> {
     ghost table = { made_of ⟦<PairParts<A, B> as Parts>⟧.table NAMES.now (λ pair. record { 0 = (pair.a, (pair.b, tt)) }) _ };
 
-    fn form(alloc: Global) -> Result<Shape> {
+    fn parts_shape(alloc: Global) -> Result<Shape> {
         PairParts::<A, B>::shape(alloc, NAMES)
     }
 
@@ -29,7 +29,7 @@ impl<A: RoundTrip + Drop, B: RoundTrip + Drop> Compound for Pair<A, B> {
         Ok(Pair { a, b })
     }
 
-    fn written(&self, out: Out) -> WriteResult {
+    fn write_parts(&self, out: Out) -> WriteResult {
         out.fields(NAMES, (&self.a, (&self.b, ())))
     }
 }

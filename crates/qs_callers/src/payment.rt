@@ -26,7 +26,7 @@ const PAYMENT: &[&str] = &["amount", "method"];
 impl<M: RoundTrip + Drop> Compound for Payment<M> {
     ghost table = { made_of ⟦<PaymentParts<M> as Parts>⟧.table PAYMENT.now (λ payment. record { 0 = (payment.amount, (payment.method, tt)) }) _ };
 
-    fn form(alloc: Global) -> Result<Shape> {
+    fn parts_shape(alloc: Global) -> Result<Shape> {
         PaymentParts::<M>::shape(alloc, PAYMENT)
     }
 
@@ -35,7 +35,7 @@ impl<M: RoundTrip + Drop> Compound for Payment<M> {
         Ok(Payment { amount, method })
     }
 
-    fn written(&self, out: Out) -> WriteResult {
+    fn write_parts(&self, out: Out) -> WriteResult {
         out.fields(PAYMENT, (&self.amount, (&self.method, ())))
     }
 }
@@ -55,7 +55,7 @@ const METHOD: &[&str] = &["Cash", "Card", "number", "year"];
 impl Compound for Method {
     ghost table = { made_of ⟦<MethodParts as Parts>⟧.table METHOD.now (elim [ Cash ↦ record { 0 = First tt } | Card number year ↦ record { 0 = Later (record { 0 = record { 0 = (number, (year, tt)) } }) } ]) _ };
 
-    fn form(alloc: Global) -> Result<Shape> {
+    fn parts_shape(alloc: Global) -> Result<Shape> {
         MethodParts::shape(alloc, METHOD)
     }
 
@@ -67,7 +67,7 @@ impl Compound for Method {
         })
     }
 
-    fn written(&self, out: Out) -> WriteResult {
+    fn write_parts(&self, out: Out) -> WriteResult {
         match self {
             Method::Cash => out.unit_variant("Cash"),
             Method::Card { number, year } => {

@@ -29,7 +29,7 @@ impl PerPage {
 impl Compound for PerPage {
     ghost table = { table_of (λ page. page.count) (λ page. d.unsigned page.count) (s.Shape.unsigned 8) per_page_in refl (λ page e _ p. per_page_back page.count e page.is_allowed p) };
 
-    fn form(alloc: Global) -> Result<Shape> {
+    fn parts_shape(alloc: Global) -> Result<Shape> {
         u8::shape(alloc)
     }
 
@@ -43,7 +43,7 @@ impl Compound for PerPage {
         }
     }
 
-    fn written(&self, out: Out) -> WriteResult {
+    fn write_parts(&self, out: Out) -> WriteResult {
         out.value(&self.count)
     }
 }

@@ -27,7 +27,7 @@ const NAMES: &[&str] = &["Anywhere", "At"];
 impl Compound for Place {
     ghost table = { made_of ⟦<PlaceParts as Parts>⟧.table NAMES.now (elim [ Anywhere ↦ record { 0 = First tt } | At east north ↦ record { 0 = Later (record { 0 = record { 0 = (east, (north, tt)) } }) } ]) _ };
 
-    fn form(alloc: Global) -> Result<Shape> {
+    fn parts_shape(alloc: Global) -> Result<Shape> {
         PlaceParts::shape(alloc, NAMES)
     }
 
@@ -39,7 +39,7 @@ impl Compound for Place {
         })
     }
 
-    fn written(&self, out: Out) -> WriteResult {
+    fn write_parts(&self, out: Out) -> WriteResult {
         match self {
             Place::Anywhere => out.unit_variant("Anywhere"),
             Place::At(east, north) => out.tuple_variant("At", (east, (north, ()))),

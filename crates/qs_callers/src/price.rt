@@ -15,7 +15,7 @@ type PriceParts = Newtype<u32>;
 impl Compound for Price {
     ghost table = { made_of ⟦<PriceParts as Parts>⟧.table [] (λ price. record { 0 = price.0 }) _ };
 
-    fn form(alloc: Global) -> Result<Shape> {
+    fn parts_shape(alloc: Global) -> Result<Shape> {
         PriceParts::shape(alloc, &[])
     }
 
@@ -24,7 +24,7 @@ impl Compound for Price {
         Ok(Price(cents))
     }
 
-    fn written(&self, out: Out) -> WriteResult {
+    fn write_parts(&self, out: Out) -> WriteResult {
         out.newtype(&self.0)
     }
 }

@@ -39,7 +39,7 @@ const NAMES: &[&str] = &["filter", "price", "shops", "page"];
 impl Compound for Products {
     ghost table = { made_of ⟦<ProductsParts as Parts>⟧.table NAMES.now (λ p. record { 0 = (p.filter, (record { 0 = p.price }, (p.shops, (record { 0 = p.page }, tt)))) }) _ };
 
-    fn form(alloc: Global) -> Result<Shape> {
+    fn parts_shape(alloc: Global) -> Result<Shape> {
         ProductsParts::shape(alloc, NAMES)
     }
 
@@ -53,14 +53,14 @@ impl Compound for Products {
         })
     }
 
-    fn written(&self, out: Out) -> WriteResult {
+    fn write_parts(&self, out: Out) -> WriteResult {
         out.fields(NAMES, fields!(self; filter, price?, shops, page?))
     }
 }
 
 /// Returns the querystring of the next page.
 pub fn next_page(alloc: Global, input: &str) -> Result<String>
-    ensures { IfOk result (λ text. (found : Products) × IsRead default ⟦<Products as Deserialize>⟧.table.form ⟦<Products as Deserialize>⟧.table.meaning input.now (⟦<Products as Deserialize>⟧.table.value found)
+    ensures { IfOk result (λ text. (found : Products) × IsRead default ⟦<Products as Deserialize>⟧.table.shape ⟦<Products as Deserialize>⟧.table.meaning input.now (⟦<Products as Deserialize>⟧.table.value found)
         × (string_bytes text ≡ text_of default (⟦<Products as Serialize>⟧.datum (turned found)))) }
 {
     let mut products: Products = from_str(alloc, input)?;

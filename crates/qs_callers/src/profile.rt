@@ -33,7 +33,7 @@ const NAMES: &[&str] = &[
 impl Compound for Profile {
     ghost table = { made_of ⟦<ProfileParts as Parts>⟧.table NAMES.now (λ p. record { 0 = (p.name, (p.age, (p.city, (p.zip, (p.langs, (p.sort, (p.size, (p.dark, (p.news, (p.visits, tt)))))))))) }) _ };
 
-    fn form(alloc: Global) -> Result<Shape> {
+    fn parts_shape(alloc: Global) -> Result<Shape> {
         ProfileParts::shape(alloc, NAMES)
     }
 
@@ -54,7 +54,7 @@ impl Compound for Profile {
         })
     }
 
-    fn written(&self, out: Out) -> WriteResult {
+    fn write_parts(&self, out: Out) -> WriteResult {
         out.fields(
             NAMES,
             fields!(self; name, age, city, zip, langs, sort, size, dark, news, visits),

@@ -21,7 +21,7 @@ const NAMES: &[&str] = &["name", "age", "occupation"];
 impl Compound for Query {
     ghost table = { made_of ⟦<QueryParts as Parts>⟧.table NAMES.now (λ query. record { 0 = (query.name, (query.age, (query.occupation, tt))) }) _ };
 
-    fn form(alloc: Global) -> Result<Shape> {
+    fn parts_shape(alloc: Global) -> Result<Shape> {
         QueryParts::shape(alloc, NAMES)
     }
 
@@ -34,7 +34,7 @@ impl Compound for Query {
         })
     }
 
-    fn written(&self, out: Out) -> WriteResult {
+    fn write_parts(&self, out: Out) -> WriteResult {
         out.fields(NAMES, fields!(self; name, age, occupation))
     }
 }

@@ -20,7 +20,7 @@ const NAMES: &[&str] = &["from", "to"];
 impl Compound for Range {
     ghost table = { made_of ⟦<RangeParts as Parts>⟧.table NAMES.now (λ range. record { 0 = (range.from, (range.to, tt)) }) _ };
 
-    fn form(alloc: Global) -> Result<Shape> {
+    fn parts_shape(alloc: Global) -> Result<Shape> {
         RangeParts::shape(alloc, NAMES)
     }
 
@@ -29,7 +29,7 @@ impl Compound for Range {
         Ok(Range { from, to })
     }
 
-    fn written(&self, out: Out) -> WriteResult {
+    fn write_parts(&self, out: Out) -> WriteResult {
         out.fields(NAMES, (&self.from, (&self.to, ())))
     }
 }

@@ -1,7 +1,7 @@
 //! Equal keys, trees and data, by the laws of `==`.
 
 ghost use Rattle.std.specs.Prelude.{◌≡◌, ◌↔◌, IsTrue};
-ghost use Rattle.qs_spec.specs.Order.{unmarked};
+ghost use Rattle.qs_spec.specs.Order.{ignoring_escapes};
 ghost use Rattle.qs_spec.specs.Segment.{compare_segments};
 ghost use Rattle.qs_tree.specs.tree.Views.{segment_of_key, tree_of};
 ghost use Rattle.qs_data.specs.data.Views.{data_of};
@@ -20,7 +20,7 @@ pub fn is_same_data(a: &Data, b: &Data) -> bool
 
 /// Returns whether two trees are equal, ignoring which texts are borrowed.
 pub fn is_same_tree<'qs>(a: &ParsedValue<'qs>, b: &ParsedValue<'qs>) -> bool
-    ensures { IsTrue result ↔ unmarked (tree_of a.now) ≡ unmarked (tree_of b.now) }
+    ensures { IsTrue result ↔ ignoring_escapes (tree_of a.now) ≡ ignoring_escapes (tree_of b.now) }
 {
     equality_of_values();
     a == b

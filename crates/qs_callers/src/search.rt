@@ -25,7 +25,7 @@ const NAMES: &[&str] = &["text", "page", "ranges", "labels"];
 impl Compound for Search {
     ghost table = { made_of ⟦<SearchParts as Parts>⟧.table NAMES.now (λ search. record { 0 = (search.text, (search.page, (search.ranges, (search.labels, tt)))) }) _ };
 
-    fn form(alloc: Global) -> Result<Shape> {
+    fn parts_shape(alloc: Global) -> Result<Shape> {
         SearchParts::shape(alloc, NAMES)
     }
 
@@ -39,7 +39,7 @@ impl Compound for Search {
         })
     }
 
-    fn written(&self, out: Out) -> WriteResult {
+    fn write_parts(&self, out: Out) -> WriteResult {
         out.fields(NAMES, fields!(self; text, page, ranges, labels))
     }
 }

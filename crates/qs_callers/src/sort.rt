@@ -30,7 +30,7 @@ const NAMES: &[&str] = &["Relevance", "By", "Between", "from", "to"];
 impl Compound for Sort {
     ghost table = { made_of ⟦<SortParts as Parts>⟧.table NAMES.now (elim [ Relevance ↦ record { 0 = First tt } | By name ↦ record { 0 = Later (First (record { 0 = name })) } | Between from to ↦ record { 0 = Later (Later (record { 0 = record { 0 = (from, (to, tt)) } })) } ]) _ };
 
-    fn form(alloc: Global) -> Result<Shape> {
+    fn parts_shape(alloc: Global) -> Result<Shape> {
         SortParts::shape(alloc, NAMES)
     }
 
@@ -46,7 +46,7 @@ impl Compound for Sort {
         })
     }
 
-    fn written(&self, out: Out) -> WriteResult {
+    fn write_parts(&self, out: Out) -> WriteResult {
         match self {
             Sort::Relevance => out.unit_variant("Relevance"),
             Sort::By(name) => out.newtype_variant("By", name),

@@ -15,7 +15,7 @@ type SpanParts = Tuple<(u32, (u32, ()))>;
 impl Compound for Span {
     ghost table = { made_of ⟦<SpanParts as Parts>⟧.table [] (λ span. record { 0 = (span.0, (span.1, tt)) }) _ };
 
-    fn form(alloc: Global) -> Result<Shape> {
+    fn parts_shape(alloc: Global) -> Result<Shape> {
         SpanParts::shape(alloc, &[])
     }
 
@@ -24,7 +24,7 @@ impl Compound for Span {
         Ok(Span(first, last))
     }
 
-    fn written(&self, out: Out) -> WriteResult {
+    fn write_parts(&self, out: Out) -> WriteResult {
         out.items((&self.0, (&self.1, ())))
     }
 }

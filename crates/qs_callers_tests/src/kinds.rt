@@ -34,7 +34,7 @@ const MESSAGE_NAMES: &[&str] = &["Unit", "Newtype", "Tuple", "Struct", "x", "y"]
 impl Compound for Message {
     ghost table = { made_of ⟦<MessageParts as Parts>⟧.table MESSAGE_NAMES.now (elim [ Empty ↦ record { 0 = First tt } | One text ↦ record { 0 = Later (First (record { 0 = text })) } | Two count is_set ↦ record { 0 = Later (Later (First (record { 0 = (count, (is_set, tt)) }))) } | Named x y ↦ record { 0 = Later (Later (Later (record { 0 = record { 0 = (x, (y, tt)) } }))) } ]) _ };
 
-    fn form(alloc: Global) -> Result<Shape> {
+    fn parts_shape(alloc: Global) -> Result<Shape> {
         MessageParts::shape(alloc, MESSAGE_NAMES)
     }
 
@@ -51,7 +51,7 @@ impl Compound for Message {
         })
     }
 
-    fn written(&self, out: Out) -> WriteResult {
+    fn write_parts(&self, out: Out) -> WriteResult {
         match self {
             Message::Unit => out.unit_variant("Unit"),
             Message::Newtype(text) => out.newtype_variant("Newtype", text),
@@ -76,7 +76,7 @@ const LOUD_NAMES: &[&str] = &["FIELD_ONE", "FIELD_TWO", "NESTED_FIELD"];
 impl Compound for Loud {
     ghost table = { made_of ⟦<LoudParts as Parts>⟧.table LOUD_NAMES.now (λ loud. record { 0 = (loud.one, (loud.two, (loud.nested, tt))) }) _ };
 
-    fn form(alloc: Global) -> Result<Shape> {
+    fn parts_shape(alloc: Global) -> Result<Shape> {
         LoudParts::shape(alloc, LOUD_NAMES)
     }
 
@@ -85,7 +85,7 @@ impl Compound for Loud {
         Ok(Loud { one, two, nested })
     }
 
-    fn written(&self, out: Out) -> WriteResult {
+    fn write_parts(&self, out: Out) -> WriteResult {
         out.fields(LOUD_NAMES, (&self.one, (&self.two, (&self.nested, ()))))
     }
 }
@@ -103,7 +103,7 @@ const PERSON_NAMES: &[&str] = &["full name"];
 impl Compound for Person {
     ghost table = { made_of ⟦<PersonParts as Parts>⟧.table PERSON_NAMES.now (λ person. record { 0 = (person.name, tt) }) _ };
 
-    fn form(alloc: Global) -> Result<Shape> {
+    fn parts_shape(alloc: Global) -> Result<Shape> {
         PersonParts::shape(alloc, PERSON_NAMES)
     }
 
@@ -112,7 +112,7 @@ impl Compound for Person {
         Ok(Person { name })
     }
 
-    fn written(&self, out: Out) -> WriteResult {
+    fn write_parts(&self, out: Out) -> WriteResult {
         out.fields(PERSON_NAMES, (&self.name, ()))
     }
 }

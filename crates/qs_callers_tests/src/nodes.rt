@@ -4,8 +4,8 @@ use crate::claims::{fails, gives, holds, is_equal, is_not_utf8, is_text};
 use crate::values::{list, text, tree};
 use qs_callers::Query;
 use qs_data::{
-    Data, Entries, Error, Field, FieldNames, Found, Reader, Result, Shape, UnknownKeys, find_value,
-    read_value,
+    Data, Error, Field, FieldNames, Found, NodeEntries, Reader, Result, Shape, UnknownKeys,
+    find_value, read_value,
 };
 use qs_tree::{Config, ParsedValue};
 use serde_qs::Deserialize;
@@ -50,7 +50,7 @@ fn second_id(reader: Reader, tree: &ParsedValue<'_>) -> Result<Option<Data>> {
     let ParsedValue::Map(map) = tree else {
         return Ok(None);
     };
-    let entries = Entries::Map(map);
+    let entries = NodeEntries::Map(map);
     if entries.test().is_err() {
         return Ok(None);
     }
@@ -117,7 +117,7 @@ fn tested(alloc: Global, tree: &ParsedValue<'_>) -> Result<()> {
     let ParsedValue::Map(map) = tree else {
         return Ok(());
     };
-    Entries::Map(map)
+    NodeEntries::Map(map)
         .test()
         .map_err(|key| key.into_error(alloc))
 }

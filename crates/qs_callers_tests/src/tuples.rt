@@ -19,7 +19,7 @@ type TwoParts<A, B> = Tuple<(A, (B, ()))>;
 impl<A: RoundTrip + Drop, B: RoundTrip + Drop> Compound for Two<A, B> {
     ghost table = { made_of ⟦<TwoParts<A, B> as Parts>⟧.table [] (λ two. record { 0 = (two.0, (two.1, tt)) }) _ };
 
-    fn form(alloc: Global) -> Result<Shape> {
+    fn parts_shape(alloc: Global) -> Result<Shape> {
         TwoParts::<A, B>::shape(alloc, &[])
     }
 
@@ -28,7 +28,7 @@ impl<A: RoundTrip + Drop, B: RoundTrip + Drop> Compound for Two<A, B> {
         Ok(Two(a, b))
     }
 
-    fn written(&self, out: Out) -> WriteResult {
+    fn write_parts(&self, out: Out) -> WriteResult {
         out.items((&self.0, (&self.1, ())))
     }
 }
@@ -42,7 +42,7 @@ type ThreeParts<A, B, C> = Tuple<(A, (B, (C, ())))>;
 impl<A: RoundTrip + Drop, B: RoundTrip + Drop, C: RoundTrip + Drop> Compound for Three<A, B, C> {
     ghost table = { made_of ⟦<ThreeParts<A, B, C> as Parts>⟧.table [] (λ three. record { 0 = (three.0, (three.1, (three.2, tt))) }) _ };
 
-    fn form(alloc: Global) -> Result<Shape> {
+    fn parts_shape(alloc: Global) -> Result<Shape> {
         ThreeParts::<A, B, C>::shape(alloc, &[])
     }
 
@@ -51,7 +51,7 @@ impl<A: RoundTrip + Drop, B: RoundTrip + Drop, C: RoundTrip + Drop> Compound for
         Ok(Three(a, b, c))
     }
 
-    fn written(&self, out: Out) -> WriteResult {
+    fn write_parts(&self, out: Out) -> WriteResult {
         out.items((&self.0, (&self.1, (&self.2, ()))))
     }
 }

@@ -9,7 +9,7 @@ pub use Rattle.qs_spec.specs.Listed.{are_listed, are_listed_members, are_listed_
 pub use Rattle.qs_spec.specs.Node.{are_ints, as_map, found, is_int, is_place, item_text, items, keys_are_allowed, keys_are_names, keys_are_text, last_item, placed, sequence_items, under_empty, value_at_key}
 pub use Rattle.qs_spec.specs.Plain.{are_plain, are_plain_members, are_plain_pairs, count, has_members, has_values, is_member_name, is_written_key, member_names_differ, written_keys_differ}
 pub use Rattle.qs_spec.specs.Scalar.{boolean_data, character_data, is_numeral, key_data, numeral_up_to, only_character, signed_data, signed_number, text_data, unsigned_data, unsigned_number}
-pub use Rattle.qs_spec.specs.Segment.{Segment, MarkedSegment, is_same_segment, number, segment_text}
+pub use Rattle.qs_spec.specs.Segment.{Segment, ParsedSegment, is_same_segment, number, segment_text}
 pub use Rattle.qs_spec.specs.Shape.{Fields, KeyShape, Shape, Variants, are_distinct, are_distinct_fields, are_distinct_variants, are_ignored, field_names_differ, is_distinct, is_field_name, is_option, is_variant_name, names_differ, no_fields, no_shapes, no_variants, one_field, one_variant, unit_kind, variant_names_differ}
 pub use Rattle.qs_spec.specs.Tree.{Entries, Items, Tree}
 pub use Rattle.qs_spec.specs.Tree.Entries.{entry, no_entries}
@@ -20,7 +20,7 @@ pub use Rattle.qs_spec.specs.internal.ReadFunction.{Reader, any_data, any_items,
 pub use Rattle.qs_tree.specs.declared.error.Error.{Error}
 pub use Rattle.qs_tree.specs.declared.error.Error.TheVariants.{Custom, Utf8}
 pub use Rattle.qs_tree.specs.declared.tree.value.ParsedValue.{ParsedValue}
-pub use Rattle.qs_tree.specs.tree.Views.{entries_of_map, entry_list, items_from, segment_of_key, marked_segment_of_key, tree_of}
+pub use Rattle.qs_tree.specs.tree.Views.{entries_of_map, entry_list, items_from, segment_of_key, parsed_segment_of_key, tree_of}
 pub use Rattle.qs_data.specs.data.Views.{data_of, members_in, named, pair_of, pairs_in, unchanged, values_in}
 pub use Rattle.qs_data.specs.data.internal.Equality.{data_same, members_same, pairs_same, values_same}
 pub use Rattle.qs_data.specs.data.internal.Weight.{member_weight, pair_weight, weight}
@@ -39,7 +39,7 @@ pub use Rattle.qs_data.specs.read.internal.GivenText.{data_by_text, given_text, 
 pub use Rattle.qs_data.specs.read.internal.Keys.{entries_after, passed, unknown_of, value_in, when}
 pub use Rattle.qs_data.specs.read.internal.Nesting.{Advances, Begins, Enters, Extends, Visits, entries_left, frame_after, frame_data, frame_is_text, frame_size, items_left, list_begun, map_begun}
 pub use Rattle.qs_data.specs.read.Narrowed.{error_of}
-pub use Rattle.qs_data.specs.read.internal.ReadError.{ReadGives, ReadIsCustom, ReadIsFrugal, ReadRejects, ReadSpares}
+pub use Rattle.qs_data.specs.read.internal.ReadError.{ReadGives, ReadIsCustom, ReadIsFrugal, ReadRejects, ReadRunsOutOnlyToReject}
 pub use Rattle.qs_data.specs.read.internal.Sizes.{entries_size, items_size, list_size, tree_size}
 pub use Rattle.qs_data.specs.shape.Variants.{variant_named}
 pub use Rattle.qs_data.specs.shape.Views.{field_of, fields_in, key_shape_of, kind_of, shape_of, shapes_in, variant_of, variants_in}

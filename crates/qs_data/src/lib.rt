@@ -9,8 +9,8 @@ mod write;
 pub use data::{Data, equality_of_data};
 pub use qs_tree::{ArrayFormat, Config, DuplicateKeyBehavior, Error, Result};
 pub use read::{
-    BrokenKey, Deserializer, Entries, FieldNames, Found, Items, ReadError, Reader, UnknownKeys,
-    find_value, read_value,
+    BrokenKey, Deserializer, FieldNames, Found, NodeEntries, NodeItems, ReadError, Reader,
+    UnknownKeys, find_value, read_value,
 };
 pub use shape::{Field, KeyShape, Shape, Variant, VariantKind, Width};
 pub use write::{ByWrite, Scalar, Serializer, Sink, Stop, WriteResult, Writer};

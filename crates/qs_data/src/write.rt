@@ -1,10 +1,10 @@
 //! Writing: a serializer, the sink that it writes to, the walk over data, and a writer for types that write themselves.
 
 mod entry;
-mod kept;
 mod scalar;
 mod serializer;
 mod sink;
+mod sink_with_error;
 mod stop;
 mod text;
 mod walk;

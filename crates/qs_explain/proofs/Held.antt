@@ -54,7 +54,7 @@ tuple_unread rd ss t h = other_map (λ ds. Data.tuple_variant [] (values_of ds))
 no_text : (t : Tree) → is_text_leaf t ≡ false → as_map t ≡ t
 no_text (leaf NoValue) h = refl
 no_text (leaf Null) h = refl
-no_text (leaf (Text bytes mark)) h = absurd cc
+no_text (leaf (Text bytes escaped)) h = absurd cc
 no_text (sequence xs) h = refl
 no_text (mapping es) h = refl
 no_text uninitialized h = refl

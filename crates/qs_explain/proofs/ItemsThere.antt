@@ -2,7 +2,7 @@
 use Rattle.std.proofs.Common.{◌≡◌, ℕ, Bool, cond, List, map, drop, slice_get, Option, Some, None, sym, ap, ◌∙◌}
 use Rattle.std.specs.Borrow.{Bor}
 use Rattle.std.specs.Slice.{IsItemAt}
-use Rattle.qs_spec.specs.Segment.{MarkedSegment}
+use Rattle.qs_spec.specs.Segment.{ParsedSegment}
 use Rattle.qs_spec.specs.Tree.{Tree, Entries}
 use Rattle.qs_spec.specs.Node.{sequence_items, is_place, placed}
 use Rattle.qs_tree.specs.tree.Views.{tree_of, items_from, entry_list}
@@ -19,7 +19,7 @@ value_there ts i (Some v) h = sym (ap first_there (each_at i ts ∙ ap sequence_
 pub none_there : (i : ℕ) (es : Entries) → slice_get (entry_list es) i ≡ None → None ≡ first_there (drop i (placed 0 es))
 none_there i es h = sym (ap first_there (place_none i es h))
 
-pub pair_there : (i : ℕ) (es : Entries) (x : MarkedSegment × Tree) (b : Bool) → slice_get (entry_list es) i ≡ Some x → is_place i x.0.seg ≡ b → cond b (Some x.1) None ≡ first_there (drop i (placed 0 es))
+pub pair_there : (i : ℕ) (es : Entries) (x : ParsedSegment × Tree) (b : Bool) → slice_get (entry_list es) i ≡ Some x → is_place i x.0.segment ≡ b → cond b (Some x.1) None ≡ first_there (drop i (placed 0 es))
 pair_there i es x b h e = sym (ap first_there (place_here i es x h) ∙ ap (λ c. cond c (Some x.1) None) e)
 
 pub same_list : (xs ys : List (Option Tree)) → Some xs ≡ Some ys → xs ≡ ys

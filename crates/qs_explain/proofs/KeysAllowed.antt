@@ -1,7 +1,7 @@
 -- The first key that isn't allowed, key by key.
 use Rattle.std.proofs.Common.{◌≡◌, ℕ, ◌+◌, ◌≤◌, Bool, true, false, cond, List, length, slice_get, Some, None, Result, Ok, Err, IfOk, sym, ap, ◌∙◌}
 use Rattle.std.specs.Option.{is_some}
-use Rattle.qs_spec.specs.Segment.{MarkedSegment, segment_text}
+use Rattle.qs_spec.specs.Segment.{ParsedSegment, segment_text}
 use Rattle.qs_spec.specs.Shape.{Shape}
 use Rattle.qs_spec.specs.Tree.{Tree, Entries}
 use Rattle.qs_spec.specs.internal.ReadFunction.{reads}
@@ -12,11 +12,11 @@ use Rattle.qs_explain.specs.Unexpected.{first_other}
 use Rattle.qs_explain.specs.internal.Finding.{Tests}
 
 module _ (test : List ℕ → Bool) (i : ℕ) (es : Entries) where
-  pub other_here : (x : MarkedSegment × Tree) → slice_get (entry_list es) i ≡ Some x → test (segment_text x.0.seg) ≡ false → first_other test (entries_after i es) ≡ Some x.0.seg
-  other_here x h differs = ap (first_other test) (after_some i es x h) ∙ ap (λ b. cond b (first_other test (entries_after (i + 1) es)) (Some x.0.seg)) differs
+  pub other_here : (x : ParsedSegment × Tree) → slice_get (entry_list es) i ≡ Some x → test (segment_text x.0.segment) ≡ false → first_other test (entries_after i es) ≡ Some x.0.segment
+  other_here x h differs = ap (first_other test) (after_some i es x h) ∙ ap (λ b. cond b (first_other test (entries_after (i + 1) es)) (Some x.0.segment)) differs
 
-  pub other_later : (x : MarkedSegment × Tree) → slice_get (entry_list es) i ≡ Some x → test (segment_text x.0.seg) ≡ true → first_other test (entries_after i es) ≡ first_other test (entries_after (i + 1) es)
-  other_later x h same = ap (first_other test) (after_some i es x h) ∙ ap (λ b. cond b (first_other test (entries_after (i + 1) es)) (Some x.0.seg)) same
+  pub other_later : (x : ParsedSegment × Tree) → slice_get (entry_list es) i ≡ Some x → test (segment_text x.0.segment) ≡ true → first_other test (entries_after i es) ≡ first_other test (entries_after (i + 1) es)
+  other_later x h same = ap (first_other test) (after_some i es x h) ∙ ap (λ b. cond b (first_other test (entries_after (i + 1) es)) (Some x.0.segment)) same
 
   pub other_none : slice_get (entry_list es) i ≡ None → first_other test (entries_after i es) ≡ None
   other_none h = ap (first_other test) (after_none i es h)

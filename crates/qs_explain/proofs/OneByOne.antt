@@ -2,7 +2,7 @@
 use Rattle.std.proofs.Common.{◌≡◌, ℕ, zero, suc, ◌+◌, ◌<◌, ◌≤◌, arith, Bool, true, false, List, [], ◌∷◌, ◌++◌, drop, length, rules, get_or, slice_get, Option, Some, None, option_map, Result, Ok, Err, refl, sym, ap, subst, ◌∙◌}
 use Rattle.std.proofs.lemmas.List.{drop_more, drop_all, length-drop}
 use Rattle.qs_spec.specs.Data.{Data}
-use Rattle.qs_spec.specs.Segment.{Segment, MarkedSegment}
+use Rattle.qs_spec.specs.Segment.{Segment, ParsedSegment}
 use Rattle.qs_spec.specs.Segment.Segment.{Int, Str}
 use Rattle.qs_spec.specs.Shape as shapes
 use Rattle.qs_spec.specs.Tree.{Tree, Entries}
@@ -163,11 +163,11 @@ module _ {E : Type 0} (rd : Bool) (i : ℕ) (r : Result (Option Mismatch) E) whe
   pub names_end : (fs : List Field) (es : Entries) → length fs ≤ i → AreRead rd (name_children (fields_in (drop i fs)) es)
   names_end fs es h = subst (λ ys. AreRead rd (name_children (fields_in ys) es)) (sym (drop_all i fs h)) tt
 
-  pub pairs_fails : (s : shapes.Shape) (es : Entries) (x : MarkedSegment × Tree) (m : Mismatch) → slice_get (entry_list es) i ≡ Some x → IsBelow rd x.0.seg s x.1 m → OneFails rd (pair_children s (entries_after i es)) m
-  pairs_fails s es x m h f = subst (λ ys. OneFails rd (pair_children s ys) m) (sym (after_some i es x h)) (record { key = x.0.seg; part = s; node = x.1; child = IsChild.first; below = f })
+  pub pairs_fails : (s : shapes.Shape) (es : Entries) (x : ParsedSegment × Tree) (m : Mismatch) → slice_get (entry_list es) i ≡ Some x → IsBelow rd x.0.segment s x.1 m → OneFails rd (pair_children s (entries_after i es)) m
+  pairs_fails s es x m h f = subst (λ ys. OneFails rd (pair_children s ys) m) (sym (after_some i es x h)) (record { key = x.0.segment; part = s; node = x.1; child = IsChild.first; below = f })
 
-  pub pairs_more : (s : shapes.Shape) (es : Entries) (x : MarkedSegment × Tree) → slice_get (entry_list es) i ≡ Some x → ReadsSome rd s x.1 → FindsAmong rd (pair_children s (entries_after (i + 1) es)) r → FindsAmong rd (pair_children s (entries_after i es)) r
-  pairs_more s es x h read f = subst (λ ys. FindsAmong rd (pair_children s ys) r) (sym (after_some i es x h)) (among_more rd ((x.0.seg, s, x.1) ∷ []) (pair_children s (entries_after (i + 1) es)) r (read, tt) f)
+  pub pairs_more : (s : shapes.Shape) (es : Entries) (x : ParsedSegment × Tree) → slice_get (entry_list es) i ≡ Some x → ReadsSome rd s x.1 → FindsAmong rd (pair_children s (entries_after (i + 1) es)) r → FindsAmong rd (pair_children s (entries_after i es)) r
+  pairs_more s es x h read f = subst (λ ys. FindsAmong rd (pair_children s ys) r) (sym (after_some i es x h)) (among_more rd ((x.0.segment, s, x.1) ∷ []) (pair_children s (entries_after (i + 1) es)) r (read, tt) f)
 
   pub pairs_none : (s : shapes.Shape) (es : Entries) → slice_get (entry_list es) i ≡ None → AreRead rd (pair_children s (entries_after i es))
   pairs_none s es h = subst (λ ys. AreRead rd (pair_children s ys)) (sym (after_none i es h)) tt

@@ -18,21 +18,21 @@ use Rattle.qs_explain.specs.Explains.{Explains, IsErrorOf}
 use Rattle.qs_explain.specs.internal.Parsed.{ExplainsParsed}
 
 -- an input with the tree without pairs isn't empty
-not_empty : (form : Bool) (depth : ℕ) (input : List ℕ) → IsTree form depth input uninitialized → input ≢ []
-not_empty form depth [] h = absurd cc
-not_empty form depth (b ∷ input) h = λ e. absurd cc
+not_empty : (is_form : Bool) (depth : ℕ) (input : List ℕ) → IsTree is_form depth input uninitialized → input ≢ []
+not_empty is_form depth [] h = absurd cc
+not_empty is_form depth (b ∷ input) h = λ e. absurd cc
 
-without_pairs : (config : Config) (s : Shape) (input : List ℕ) (value : ParsedValue) → Parses config.form config.max_depth input (Ok value) → tree_of value ≡ uninitialized
+without_pairs : (config : Config) (s : Shape) (input : List ℕ) (value : ParsedValue) → Parses config.is_form config.max_depth input (Ok value) → tree_of value ≡ uninitialized
     → reads (are_rejected config.duplicates) s (tree_of value) ≡ None → Explains {E = Error} config s input (Ok (Some e.NoPairs))
 without_pairs config s input value p is unread =
-    let tree = subst (λ n. IsTree config.form config.max_depth input n) is p.tree in (
+    let tree = subst (λ n. IsTree config.is_form config.max_depth input n) is p.tree in (
       tree,
-      subst (λ n. HasPairs config.form config.max_depth input (leaf_count n)) is (p.leaves (not_empty config.form config.max_depth input tree)),
+      subst (λ n. HasPairs config.is_form config.max_depth input (leaf_count n)) is (p.leaves (not_empty config.is_form config.max_depth input tree)),
       subst (λ n. reads (are_rejected config.duplicates) s n ≡ None) is unread,
     )
 
 -- an error of parsing
-carried : (config : Config) (input : List ℕ) (x : Error) → Parses config.form config.max_depth input (Err x) → x ≢ error.OutOfMemory → IsErrorOf config input x
+carried : (config : Config) (input : List ℕ) (x : Error) → Parses config.is_form config.max_depth input (Err x) → x ≢ error.OutOfMemory → IsErrorOf config input x
 carried config input (error.Parse message position) p other = (tt, p)
 carried config input (error.Custom message) p other = absurd p.errors
 carried config input (error.MaxSerializationDepthExceeded depth) p other = absurd p.errors
@@ -44,7 +44,7 @@ carried config input (error.Utf8 cause) p other = absurd p.errors
 carried config input error.OutOfMemory p other = absurd (other refl)
 carried config input error.Failed p other = absurd p.errors
 
-pub explained : {E : Type 0} (config : Config) (s : Shape) (input : List ℕ) (parsed : Result ParsedValue Error) (r : Result (Option Explanation) E) → Parses config.form config.max_depth input parsed
+pub explained : {E : Type 0} (config : Config) (s : Shape) (input : List ℕ) (parsed : Result ParsedValue Error) (r : Result (Option Explanation) E) → Parses config.is_form config.max_depth input parsed
     → ExplainsParsed (are_rejected config.duplicates) s parsed r → Explains config s input r
 explained config s input (Ok value) (Ok None) p h = (tree_of value, p.tree, h)
 explained config s input (Ok value) (Ok (Some (e.Syntax x))) p h = absurd h
@@ -54,7 +54,7 @@ explained config s input (Ok value) (Err x) p h = tt
 explained config s input (Err x) (Ok None) p h = absurd h
 explained config s input (Err x) (Ok (Some (e.Syntax y))) p h =
     let is : IsErrorOf config input x = carried config input x p h.1 in
-    subst (λ z. HasNoTree config.form config.max_depth input × IsErrorOf config input z) (sym h.0) (p.no_tree is.0, is)
+    subst (λ z. HasNoTree config.is_form config.max_depth input × IsErrorOf config input z) (sym h.0) (p.no_tree is.0, is)
 explained config s input (Err x) (Ok (Some e.NoPairs)) p h = absurd h
 explained config s input (Err x) (Ok (Some (e.Mismatch m))) p h = absurd h
 explained config s input (Err x) (Err y) p h = tt

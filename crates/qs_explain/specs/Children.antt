@@ -52,7 +52,7 @@ name_children (one_field name s optional fs) es = name_child name s optional (fo
 abbrev pub struct_children : Fields → Tree → List Child
 struct_children fs (leaf NoValue) = name_children fs no_entries
 struct_children fs (leaf Null) = name_children fs no_entries
-struct_children fs (leaf (Text bytes mark)) = []
+struct_children fs (leaf (Text bytes escaped)) = []
 struct_children fs (sequence xs) = []
 struct_children fs (mapping es) = name_children fs es
 struct_children fs uninitialized = []
@@ -60,17 +60,17 @@ struct_children fs uninitialized = []
 -- the values of a map
 abbrev pub pair_children : Shape → Entries → List Child
 pair_children s no_entries = []
-pair_children s (entry key mark n es) = (key, s, n) ∷ pair_children s es
+pair_children s (entry key escaped n es) = (key, s, n) ∷ pair_children s es
 
 -- the values of a map, in a node; a text is the value of the empty key
 abbrev pub map_children : Shape → Tree → List Child
-map_children s (leaf (Text bytes mark)) = pair_children s (under_empty (leaf (Text bytes mark)))
+map_children s (leaf (Text bytes escaped)) = pair_children s (under_empty (leaf (Text bytes escaped)))
 map_children s (mapping es) = pair_children s es
 map_children s _ = []
 
 -- the node is a text
 abbrev pub is_text_leaf : Tree → Bool
-is_text_leaf (leaf (Text bytes mark)) = true
+is_text_leaf (leaf (Text bytes escaped)) = true
 is_text_leaf _ = false
 
 -- what a variant's fields are read from, unless it is a text, which counts as a map that isn't in the tree
@@ -91,7 +91,7 @@ named_children key (Some v) n = held_children key v.1 n
 
 -- the value of the variant that the first key names
 abbrev pub enum_children : Variants → Tree → List Child
-enum_children vs (mapping (entry key mark n es)) = named_children key (variant_named (segment_text key) vs) n
+enum_children vs (mapping (entry key escaped n es)) = named_children key (variant_named (segment_text key) vs) n
 enum_children vs _ = []
 
 -- the children of the items of a node, if it has a list of them

@@ -41,7 +41,7 @@ Expects Shape.ignored expected = expected ≡ e.Anything
 abbrev pub Stands : Found → Tree → Type 0
 Stands f.NoValue (Tree.leaf l.Leaf.NoValue) = ⊤
 Stands f.Empty (Tree.leaf l.Leaf.Null) = ⊤
-Stands (f.Text text) (Tree.leaf (l.Leaf.Text bytes mark)) = text.items ≡ bytes
+Stands (f.Text text) (Tree.leaf (l.Leaf.Text bytes escaped)) = text.items ≡ bytes
 Stands f.List (Tree.sequence xs) = ⊤
 Stands f.Map (Tree.mapping es) = ⊤
 Stands f.Nothing Tree.uninitialized = ⊤

@@ -65,22 +65,22 @@ is_uninitialized _ = false
 -- The error is a `Parse` error that satisfies the clause of `parse` for the input. For example, its position is in the input or right after
 -- its end.
 abbrev pub IsErrorOf : Config → List ℕ → Error → Type 0
-IsErrorOf config input error = IsParse {T = ParsedValue} (Err error) × Parses config.form config.max_depth input (Err error)
+IsErrorOf config input error = IsParse {T = ParsedValue} (Err error) × Parses config.is_form config.max_depth input (Err error)
 
 -- There is an explanation exactly if the input isn't read: it has no tree, it has no pairs, or the shape reads nothing from its tree.
 abbrev pub Explains : {E : Type 0} → Config → Shape → List ℕ → Result (Option Explanation) E → Type 0
-Explains config s input (Ok None) = (n : Tree) × IsTree config.form config.max_depth input n × ReadsSome (are_rejected config.duplicates) s n
-Explains config s input (Ok (Some (e.Syntax error))) = HasNoTree config.form config.max_depth input × IsErrorOf config input error
+Explains config s input (Ok None) = (n : Tree) × IsTree config.is_form config.max_depth input n × ReadsSome (are_rejected config.duplicates) s n
+Explains config s input (Ok (Some (e.Syntax error))) = HasNoTree config.is_form config.max_depth input × IsErrorOf config input error
 Explains config s input (Ok (Some e.NoPairs)) =
-    IsTree config.form config.max_depth input uninitialized × HasPairs config.form config.max_depth input 0 × (reads (are_rejected config.duplicates) s uninitialized ≡ None)
+    IsTree config.is_form config.max_depth input uninitialized × HasPairs config.is_form config.max_depth input 0 × (reads (are_rejected config.duplicates) s uninitialized ≡ None)
 Explains config s input (Ok (Some (e.Mismatch m))) =
-    (n : Tree) × IsTree config.form config.max_depth input n × (is_uninitialized n ≡ false) × (reads (are_rejected config.duplicates) s n ≡ None) × IsMismatch (are_rejected config.duplicates) s n m
+    (n : Tree) × IsTree config.is_form config.max_depth input n × (is_uninitialized n ≡ false) × (reads (are_rejected config.duplicates) s n ≡ None) × IsMismatch (are_rejected config.duplicates) s n m
 Explains config s input (Err e) = ⊤
 
 -- The same by the relation: no explanation if the shape relates the input's tree to some data, and one if it relates the tree to none.
 abbrev pub ExplainsUnread : {E : Type 0} → Config → Shape → List ℕ → Result (Option Explanation) E → Type 0
-ExplainsUnread config s input (Ok None) = (n : Tree) × IsTree config.form config.max_depth input n × (d : Data) × ReadsBy config s n d
-ExplainsUnread config s input (Ok (Some (e.Syntax error))) = HasNoTree config.form config.max_depth input
-ExplainsUnread config s input (Ok (Some e.NoPairs)) = IsTree config.form config.max_depth input uninitialized × ReadsNothing config s uninitialized
-ExplainsUnread config s input (Ok (Some (e.Mismatch m))) = (n : Tree) × IsTree config.form config.max_depth input n × ReadsNothing config s n
+ExplainsUnread config s input (Ok None) = (n : Tree) × IsTree config.is_form config.max_depth input n × (d : Data) × ReadsBy config s n d
+ExplainsUnread config s input (Ok (Some (e.Syntax error))) = HasNoTree config.is_form config.max_depth input
+ExplainsUnread config s input (Ok (Some e.NoPairs)) = IsTree config.is_form config.max_depth input uninitialized × ReadsNothing config s uninitialized
+ExplainsUnread config s input (Ok (Some (e.Mismatch m))) = (n : Tree) × IsTree config.is_form config.max_depth input n × ReadsNothing config s n
 ExplainsUnread config s input (Err e) = ⊤

@@ -6,6 +6,6 @@ pub mod Explains
 pub mod Hint
 pub mod PairRange
 pub mod Parts
-pub mod Places
+pub mod States
 pub mod Unexpected
 pub mod internal

@@ -13,7 +13,7 @@ use Rattle.qs_data.specs.shape.Variants.{variant_named}
 -- the first key whose text fails the test
 abbrev pub first_other : (List ℕ → Bool) → Entries → Option Segment
 first_other test no_entries = None
-first_other test (entry key mark n es) = cond (test (segment_text key)) (first_other test es) (Some key)
+first_other test (entry key escaped n es) = cond (test (segment_text key)) (first_other test es) (Some key)
 
 -- UTF-8, and a field's name if unknown keys are rejected
 abbrev pub is_allowed : UnknownKeys → Fields → List ℕ → Bool
@@ -30,7 +30,7 @@ is_variant vs name = is_some (variant_named name vs)
 -- the first entry alone, which names an enum's variant
 abbrev pub first_entry : Entries → Entries
 first_entry no_entries = no_entries
-first_entry (entry key mark n es) = entry key mark n no_entries
+first_entry (entry key escaped n es) = entry key escaped n no_entries
 
 -- the first key that the shape doesn't allow: among entries, and of a node
 abbrev pub unexpected_among : Shape → Entries → Option Segment

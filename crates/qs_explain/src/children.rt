@@ -1,5 +1,7 @@
 //! Finds the mismatch of a child of a node.
 
+#![tactic(auto, using(crate::proofs::Parts::below))]
+
 ghost use Rattle.qs_spec.specs.Config.{are_rejected};
 ghost use Rattle.qs_spec.specs.Segment.Segment.{Int};
 ghost use Rattle.qs_tree.specs.tree.Views.{segment_of_key};
@@ -32,7 +34,6 @@ fn find_in_node(
 
 /// Finds the mismatch of the item at an index.
 #[cycle(walk)]
-#[tactic(auto, using(crate::proofs::Parts::below))]
 pub(crate) fn find_at(
     alloc: Global,
     config: Config,
@@ -50,7 +51,6 @@ pub(crate) fn find_at(
 
 /// Finds the mismatch of the value under a key.
 #[cycle(walk)]
-#[tactic(auto, using(crate::proofs::Parts::below))]
 pub(crate) fn find_under(
     alloc: Global,
     config: Config,

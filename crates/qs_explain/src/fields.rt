@@ -4,7 +4,7 @@ ghost use Rattle.std.specs.Prelude.{◌≡◌, []};
 ghost use Rattle.qs_spec.specs.Config.{are_rejected};
 ghost use Rattle.qs_tree.specs.tree.Views.{tree_of};
 ghost use Rattle.qs_data.specs.shape.Views.{field_of, fields_in, shape_of};
-ghost use Rattle.qs_data.specs.read.Found.{Finds};
+ghost use Rattle.qs_data.specs.read.Found.{IsFound};
 ghost use Rattle.qs_spec.specs.Node.{found};
 ghost use Rattle.qs_spec.specs.Shape.{is_option};
 ghost use Rattle.qs_explain.specs.Children.{name_child, name_children, struct_children};
@@ -101,7 +101,7 @@ fn may_be_absent(shape: &Shape) -> bool
 
 // Finds the value under a name in a map. Without a map, it is missing.
 fn find_name<'t, 'qs>(map: Option<&'t ParsedMap<'qs>>, name: &str) -> Found<'t, 'qs>
-    ensures { Finds result (found name.now (keys_of map.entry)) }
+    ensures { IsFound result (found name.now (keys_of map.entry)) }
 {
     match map {
         Some(map) => find_value(map, name),

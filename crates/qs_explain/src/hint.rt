@@ -29,7 +29,7 @@ pub enum Hint {
 /// let hint = find_hint(Config::new(), b"user%5Bage%5D=7"); // Some(Hint::Escaped(7))
 /// ```
 pub fn find_hint(config: Config, input: &[u8]) -> Option<Hint>
-    ensures { result ≡ option_map (hint_of config.form) (unread_bracket config.form input.now) }
+    ensures { result ≡ option_map (hint_of config.is_form) (unread_bracket config.is_form input.now) }
 {
     let position = find_unread_bracket(config.get_form(), input)?;
     Some(if config.get_form() {
@@ -40,13 +40,13 @@ pub fn find_hint(config: Config, input: &[u8]) -> Option<Hint>
 }
 
 // Returns the position after the first escaped bracket in a key that the mode doesn't read as one.
-fn find_unread_bracket(form: bool, input: &[u8]) -> Option<usize>
-    ensures { result ≡ unread_bracket form input.now }
+fn find_unread_bracket(is_form: bool, input: &[u8]) -> Option<usize>
+    ensures { result ≡ unread_bracket is_form input.now }
 {
     let mut in_key = true;
     let mut before = (0u8, 0u8);
     for (at, byte) in input.iter().enumerate() {
-        if in_key && is_unread(form, before.0, before.1, *byte) {
+        if in_key && is_unread(is_form, before.0, before.1, *byte) {
             return Some(at + 1);
         }
         in_key = is_in_key(in_key, *byte);
@@ -56,13 +56,13 @@ fn find_unread_bracket(form: bool, input: &[u8]) -> Option<usize>
 }
 
 // Returns whether three bytes are an escaped bracket that the mode doesn't read as one.
-fn is_unread(form: bool, percent: u8, five: u8, letter: u8) -> bool
-    ensures { result ≡ is_unread_bracket form percent five letter }
+fn is_unread(is_form: bool, percent: u8, five: u8, letter: u8) -> bool
+    ensures { result ≡ is_unread_bracket is_form percent five letter }
 {
     let is_escape = percent == b'%' && five == b'5';
     let is_lower = letter == b'b' || letter == b'd';
     let is_upper = letter == b'B' || letter == b'D';
-    is_escape && (is_lower || !form && is_upper)
+    is_escape && (is_lower || !is_form && is_upper)
 }
 
 // Returns whether the byte after this one is in a key.

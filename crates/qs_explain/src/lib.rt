@@ -24,8 +24,8 @@ mod keys;
 mod line;
 mod pair_range;
 mod pairs;
-mod place;
 mod segment;
+mod state;
 mod variants;
 mod walk;
 

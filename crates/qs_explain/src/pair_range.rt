@@ -3,7 +3,7 @@
 ghost use Rattle.std.specs.Prelude.{◌≤◌, length};
 ghost use Rattle.qs_explain.specs.PairRange.{IsFirst, IsPairAt};
 
-use crate::place::{find_key_len, find_start};
+use crate::state::{find_key_len, find_start};
 use qs_data::Config;
 
 /// The range of a pair in an input: `input[start..end]`, without the `&` on either side.
@@ -37,11 +37,11 @@ pub struct PairRange {
 pub fn find_pair(config: Config, input: &[u8], position: usize) -> PairRange
     ensures { IsPairAt config input.now position result }
 {
-    let (form, max_depth) = (config.get_form(), config.get_max_depth());
+    let (is_form, max_depth) = (config.get_form(), config.get_max_depth());
     let at = position.saturating_sub(1).min(input.len());
-    let start = find_start(form, max_depth, &input[..at]);
+    let start = find_start(is_form, max_depth, &input[..at]);
     let end = find_first(input, b'&', at, input.len());
-    let key_end = start + find_key_len(form, max_depth, &input[start..end]);
+    let key_end = start + find_key_len(is_form, max_depth, &input[start..end]);
     PairRange {
         start,
         key_end,

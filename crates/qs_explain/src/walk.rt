@@ -1,5 +1,7 @@
 //! The walk to the first part that isn't read.
 
+#![tactic(auto, using(crate::proofs::Parts::parts))]
+
 ghost use Rattle.std.specs.Prelude.{IfOk, option_map};
 ghost use Rattle.qs_spec.specs.Config.{are_rejected};
 ghost use Rattle.qs_tree.specs.tree.Views.{tree_of};
@@ -64,7 +66,6 @@ pub(crate) fn is_read(
 
 // Finds the first part that isn't read inside a node that isn't read either.
 #[cycle(walk)]
-#[tactic(auto, using(crate::proofs::Parts::parts))]
 fn find_inside(
     alloc: Global,
     config: Config,
@@ -103,7 +104,6 @@ fn find_inside(
 
 // Finds the first part that isn't read inside an option.
 #[cycle(walk)]
-#[tactic(auto, using(crate::proofs::Parts::parts))]
 fn find_in_option(
     alloc: Global,
     config: Config,

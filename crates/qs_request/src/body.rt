@@ -18,8 +18,8 @@ use std::alloc::Global;
 ///
 /// Errors, allocations and time are as for [`from_bytes`](serde_qs::from_bytes) with this configuration.
 pub fn form<T: Deserialize>(alloc: Global, body: &[u8], config: Config) -> Result<QsForm<T>>
-    ensures exact { ReturnsValue (λ form. T.table.value form.0) config T.table.form T.table.meaning body.now result }
-    ensures back { ReturnsWritten (λ form. T.table.value form.0) config T.table.form T.table.meaning body.now result }
+    ensures exact { ReturnsValue (λ form. T.table.value form.0) config T.table.shape T.table.meaning body.now result }
+    ensures back { ReturnsWritten (λ form. T.table.value form.0) config T.table.shape T.table.meaning body.now result }
 {
     config.deserialize_bytes(alloc, body).map(QsForm)
 }

@@ -24,8 +24,8 @@ use std::alloc::Global;
 ///
 /// Errors, allocations and time are as for [`from_str`](serde_qs::from_str) with this configuration.
 pub fn query<T: Deserialize>(alloc: Global, uri: &Uri, config: Config) -> Result<QsQuery<T>>
-    ensures exact { ReturnsValue (λ query. T.table.value query.0) config T.table.form T.table.meaning (query_of uri.now) result }
-    ensures back { ReturnsWritten (λ query. T.table.value query.0) config T.table.form T.table.meaning (query_of uri.now) result }
+    ensures exact { ReturnsValue (λ query. T.table.value query.0) config T.table.shape T.table.meaning (query_of uri.now) result }
+    ensures back { ReturnsWritten (λ query. T.table.value query.0) config T.table.shape T.table.meaning (query_of uri.now) result }
 {
     config.deserialize_str(alloc, query_text(uri)).map(QsQuery)
 }

@@ -67,7 +67,7 @@ pub rejects_memory : {Y : Type 0} (t : Bool) (e : ReadError) (r : Option Y) → 
 rejects_memory t e r h = subst (λ f. ReadRejects t f r) (sym h) tt
 
 -- the error of an input that has a tree
-pub of_tree : (config : Config) (input : List ℕ) (tree : Tree) (e : Error) → IsTree config.form config.max_depth input tree → IsOfReading e → IsErrorOf config input e
+pub of_tree : (config : Config) (input : List ℕ) (tree : Tree) (e : Error) → IsTree config.is_form config.max_depth input tree → IsOfReading e → IsErrorOf config input e
 of_tree config input tree (e.Custom m) is h = (tree, is)
 of_tree config input tree (e.Utf8 c) is h = (tree, is)
 of_tree config input tree e.OutOfMemory is h = tt

@@ -74,16 +74,16 @@ some_bytes : (a b : List ℕ) → Some a ≡ Some b → a ≡ b
 some_bytes a b h = cc
 
 module _ (config : Config) (log : Log) (p : Position) (bytes : List ℕ) (taken : Some bytes ≡ (state_of p.writer).taken) (follows : Follows config log p) where
-  text_is : (s : State) → IsIn config p s → bytes ≡ written config.form false s.entries
+  text_is : (s : State) → IsIn config p s → bytes ≡ written config.is_form false s.entries
   text_is s at = some_bytes bytes p.writer.stream.sink.writer.items taken ∙ (holds_in config p s at).adds.text
 
   pub has_text : IsTextOf config log bytes
   has_text = ∥∥₁_map follows (λ w. by w.0 log (text_is w.0 w.1) w.2)
     where
-      by : (s : State) (l : Log) → bytes ≡ written config.form false s.entries → IfSome l (λ es. Leads config es s)
+      by : (s : State) (l : Log) → bytes ≡ written config.is_form false s.entries → IfSome l (λ es. Leads config es s)
           → IfSome l (λ es. (shown : List Event) × AreShown es shown × (text_of_sent config shown ≡ Some bytes))
       by s None text h = tt
-      by s (Some es) text h = (h.0, h.1, ap (option_map (λ (t : State). written config.form false t.entries)) h.2 ∙ ap Some (sym text))
+      by s (Some es) text h = (h.0, h.1, ap (option_map (λ (t : State). written config.is_form false t.entries)) h.2 ∙ ap Some (sym text))
 
   pub has_entries : IsTextOfEntries config bytes
   has_entries = ∥∥₁_map follows (λ w. let text = text_is w.0 w.1 in (w.0.entries, text, subst (All IsVisible) (sym text) (holds_in config p w.0 w.1).adds.visible))

@@ -7,7 +7,7 @@ use Rattle.std.specs.Borrow.{Bor}
 use Rattle.std.specs.Slice.{IsItemAt}
 use Rattle.qs_spec.specs.Leaf.Leaf.{NoValue, Null, Text}
 use Rattle.qs_spec.specs.Node.{are_ints, is_place, items, placed, sequence_items}
-use Rattle.qs_spec.specs.Segment.{MarkedSegment}
+use Rattle.qs_spec.specs.Segment.{ParsedSegment}
 use Rattle.qs_spec.specs.Tree.{Tree, Entries}
 use Rattle.qs_spec.specs.Tree.Tree.{leaf, sequence, mapping, uninitialized}
 use Rattle.qs_tree.specs.declared.tree.value.ParsedValue.{ParsedValue}
@@ -63,9 +63,9 @@ placed_part : (b : Bool) (t u : Tree) (rest : List (Option Tree)) → first_item
 placed_part true t u rest h = cc
 placed_part false t u rest h = absurd cc
 
-mapped_part : (es : Entries) (i : ℕ) (u : Tree) (o : Option (MarkedSegment × Tree)) → slice_get (entry_list es) i ≡ o → first_item (drop i (placed 0 es)) ≡ Some (Some u) → value_or (mapping es) o ≡ u
+mapped_part : (es : Entries) (i : ℕ) (u : Tree) (o : Option (ParsedSegment × Tree)) → slice_get (entry_list es) i ≡ o → first_item (drop i (placed 0 es)) ≡ Some (Some u) → value_or (mapping es) o ≡ u
 mapped_part es i u None e h = absurd (let n : Some None ≡ Some (Some u) = sym (first_none i es e) ∙ h in cc)
-mapped_part es i u (Some x) e h = placed_part (is_place i x.0.seg) x.1 u _ (sym (ap first_item (place_here i es x e)) ∙ h)
+mapped_part es i u (Some x) e h = placed_part (is_place i x.0.segment) x.1 u _ (sym (ap first_item (place_here i es x e)) ∙ h)
 
 pub item_child : (t u : Tree) (i : ℕ) → first_item (drop i (listed t)) ≡ Some (Some u) → child_at t i ≡ u
 item_child (leaf NoValue) u i h = no_part i u h
@@ -76,7 +76,7 @@ item_child (sequence xs) u i h = ap (item_or (sequence xs)) h
 item_child (mapping es) u i h = mapped_part es i u (slice_get (entry_list es) i) refl h
 item_child uninitialized u i h = no_part i u h
 
-entry_part : (t u : Tree) (o : Option (MarkedSegment × Tree)) → option_map (λ e. e.1) o ≡ Some u → value_or t o ≡ u
+entry_part : (t u : Tree) (o : Option (ParsedSegment × Tree)) → option_map (λ e. e.1) o ≡ Some u → value_or t o ≡ u
 entry_part t u (Some x) h = same_Some _ _ h
 entry_part t u None h = absurd cc
 

@@ -22,31 +22,31 @@ use Rattle.qs_serde.specs.Placed.{AreAround, Arrives, Goes, Holds, IsIn, IsLevel
 
 -- a writer that wrote nothing
 pub holds_fresh : (config : Config) (w : Writer) → IsFresh config w → Holds config w []
-holds_fresh config w f = record { settings = f.settings; adds = subst (λ t. Adds config.form blank t []) (sym f.state) (adds_nothing config.form blank) }
+holds_fresh config w f = record { settings = f.settings; adds = subst (λ t. Adds config.is_form blank t []) (sym f.state) (adds_nothing config.is_form blank) }
 
 pub stands_fresh : (config : Config) (p : Position) → IsFresh config p.writer → p.frame ≡ record { kind = k.Top; count = 0; part = None } → p.around ≡ [] → p.next ≡ n.Value → Stands config p start
 stands_fresh config p f frame around next = record {
   holds = holds_fresh config p.writer f;
   next = next;
   walk = f.top;
-  here = subst (λ (g : Frame). IsLevel config.form [] g (begun k.Top)) (sym frame) (record { kind = refl; count = refl; part = tt });
+  here = subst (λ (g : Frame). IsLevel config.is_form [] g (begun k.Top)) (sym frame) (record { kind = refl; count = refl; part = tt });
   around = around;
 }
 
 -- more entries
-pub holds_more : (config : Config) (v w : Writer) (es fs : List Entry) → w.config ≡ v.config → Holds config v es → Adds config.form (state_of v) (state_of w) fs → Holds config w (es ++ fs)
-holds_more config v w es fs same h a = record { settings = same ∙ h.settings; adds = adds_then config.form blank (state_of v) (state_of w) es fs h.adds a }
+pub holds_more : (config : Config) (v w : Writer) (es fs : List Entry) → w.config ≡ v.config → Holds config v es → Adds config.is_form (state_of v) (state_of w) fs → Holds config w (es ++ fs)
+holds_more config v w es fs same h a = record { settings = same ∙ h.settings; adds = adds_then config.is_form blank (state_of v) (state_of w) es fs h.adds a }
 
 -- no part of what is open is being written
 
-no_part : (form : Bool) (path : Path) (p : Option ℕ) (q : Option (List ℕ)) → is_some p ≡ false → PartIs form path p q → q ≡ None
-no_part form path None None e h = refl
-no_part form path None (Some x) e h = absurd h
-no_part form path (Some len) q e h = absurd (false≢true (sym e))
+no_part : (is_form : Bool) (path : Path) (p : Option ℕ) (q : Option (List ℕ)) → is_some p ≡ false → PartIs is_form path p q → q ≡ None
+no_part is_form path None None e h = refl
+no_part is_form path None (Some x) e h = absurd h
+no_part is_form path (Some len) q e h = absurd (false≢true (sym e))
 
 module _ (config : Config) (s : State) (p : Position) (none : is_some p.frame.part ≡ false) (h : Stands config p s) where
   empty : s.here.part ≡ None
-  empty = no_part config.form (path_of s.around) p.frame.part s.here.part none h.here.part
+  empty = no_part config.is_form (path_of s.around) p.frame.part s.here.part none h.here.part
 
   around_path : path_at s ≡ path_of s.around
   around_path = ap (λ part. path_of s.around ++ option_to_list part) empty ∙ append-nil (path_of s.around)
@@ -74,7 +74,7 @@ entered config s p segment len w none e h =
       record { entries = s.entries; here = record { kind = s.here.kind; count = s.here.count; part = Some segment }; around = s.around; next = s.next },
       under_is config segment s false (empty config s p none h) (le-ltb _ _ into.0),
       record {
-        holds = record { settings = e.config ∙ h.holds.settings; adds = subst (λ t. Adds config.form blank t s.entries) (sym e.state) h.holds.adds };
+        holds = record { settings = e.config ∙ h.holds.settings; adds = subst (λ t. Adds config.is_form blank t s.entries) (sym e.state) h.holds.adds };
         next = h.next;
         walk = into.1;
         here = record { kind = h.here.kind; count = h.here.count; part = e.before ∙ ap length at.text };
@@ -98,7 +98,7 @@ front_nil : (es fs : List Entry) → [] ≡ es ++ fs → es ≡ []
 front_nil [] fs h = refl
 front_nil (e ∷ es) fs h = let l = ap length h in absurd (omega (arith, l))
 
-stop_of : (deep : Bool) (e : Stop) (config : Config) (t u : StreamState) → WriteStops e config t u (deep_output deep) → Adds config.form t u [] × ((deep ≡ true) ⊎ IsMemory (Stopped e))
+stop_of : (deep : Bool) (e : Stop) (config : Config) (t u : StreamState) → WriteStops e config t u (deep_output deep) → Adds config.is_form t u [] × ((deep ≡ true) ⊎ IsMemory (Stopped e))
 unfolding written
 stop_of true TooDeep config t u w = (w.1, inl refl)
 stop_of false TooDeep config t u w = absurd (none-some too_deep w.0)
@@ -106,12 +106,12 @@ stop_of true BadKey config t u w = absurd (subst IsDeep (same_Some too_deep bad_
 stop_of false BadKey config t u w = absurd (none-some bad_key w.0)
 stop_of true Io config t u w = absurd (omega (arith, w.proper))
 stop_of false Io config t u w = absurd (omega (arith, w.proper))
-stop_of true OutOfMemory config t u w = (subst (Adds config.form t u) (front_nil w.front w.rest w.parts) w.adds, inr tt)
-stop_of false OutOfMemory config t u w = (subst (Adds config.form t u) (front_nil w.front w.rest w.parts) w.adds, inr tt)
+stop_of true OutOfMemory config t u w = (subst (Adds config.is_form t u) (front_nil w.front w.rest w.parts) w.adds, inr tt)
+stop_of false OutOfMemory config t u w = (subst (Adds config.is_form t u) (front_nil w.front w.rest w.parts) w.adds, inr tt)
 
 module _ (config : Config) (s : State) (p : Position) (segment : List ℕ) (e : Stop) (w : Writer) (none : is_some p.frame.part ≡ false)
     (stays : (x : Part) → WritesPart (Err e) p.writer w (under segment x)) (h : Stands config p s) where
-  stopped : Adds config.form (state_of p.writer) (state_of w) [] × ((nat_lt config.max_depth (length (path_of s.around)) ≡ true) ⊎ IsMemory (Stopped e))
+  stopped : Adds config.is_form (state_of p.writer) (state_of w) [] × ((nat_lt config.max_depth (length (path_of s.around)) ≡ true) ⊎ IsMemory (Stopped e))
   unfolding deeper
   stopped =
       let writes : WritesAt config (Err e) (state_of p.writer) (state_of w) p.writer.walk w.walk (under segment nothing_part) =
@@ -207,10 +207,10 @@ pub went_out : (config : Config) (s : State) (p : Position) (frame : Frame) (lef
 went_out config s p frame left none items h = by s.around refl
   where
     by : (ls : List Level) → s.around ≡ ls → (t : State) × (closes s ≡ Some t) × Stands config (record { writer = p.writer; frame = frame; around = left; next = p.next }) t
-    by [] is = let no : p.around ≡ [] = subst (AreAround config.form p.around) is h.around in
+    by [] is = let no : p.around ≡ [] = subst (AreAround config.is_form p.around) is h.around in
         let l = ap length (sym no ∙ items) in let m = length-append left (frame ∷ []) in absurd (omega (arith, l, m))
     by (l ∷ ls) is =
-        let a = subst (AreAround config.form p.around) is h.around in
+        let a = subst (AreAround config.is_form p.around) is h.around in
         let same = last_is a.0 a.1 left frame (sym a.2 ∙ items) in
         let part = empty config s p none h in (
           record { entries = s.entries; here = l; around = ls; next = s.next },
@@ -219,8 +219,8 @@ went_out config s p frame left none items h = by s.around refl
             holds = h.holds;
             next = h.next;
             walk = subst (λ path. IsAt config path p.writer.walk) (around_path config s p none h ∙ ap path_of is) h.walk;
-            here = subst (λ (f : Frame). IsLevel config.form (path_of ls) f l) same.1 a.3;
-            around = subst (λ fs. AreAround config.form fs ls) same.0 a.4;
+            here = subst (λ (f : Frame). IsLevel config.is_form (path_of ls) f l) same.1 a.3;
+            around = subst (λ fs. AreAround config.is_form fs ls) same.0 a.4;
           },
         )
 
@@ -230,7 +230,7 @@ went_nowhere config s p none empty_around h = by s.around refl
     by : (ls : List Level) → s.around ≡ ls → closes s ≡ None
     by [] is = ap (λ q. closed q s.around s) (empty config s p none h) ∙ ap (λ m. closed None m s) is
     by (l ∷ ls) is =
-        let a = subst (AreAround config.form p.around) is h.around in
+        let a = subst (AreAround config.is_form p.around) is h.around in
         let k = ap length (sym empty_around ∙ a.2) in let m = length-append a.0 (a.1 ∷ []) in absurd (omega (arith, k, m))
 
 -- a flattened map has ended: its parts are those of the map around it

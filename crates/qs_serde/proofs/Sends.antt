@@ -321,6 +321,6 @@ module _ (config : Config) where
         ∙ members_sent ms (capped (m + 1)) rest (es ++ first.entries) ls said.1 both.1
         ∙ joined rest es first.entries others.entries (and_then first others).entries k.Members (counted ms (capped (m + 1))) (counted ms (capped (m + 1))) ls both.2 refl
 
-  pub have_their_text : (x : Data) → AreSaid false x → (entries config x).error ≡ None → text_of_sent config (sends x []) ≡ Some (written config.form false (entries config x).entries)
+  pub have_their_text : (x : Data) → AreSaid false x → (entries config x).error ≡ None → text_of_sent config (sends x []) ≡ Some (written config.is_form false (entries config x).entries)
   have_their_text x said none =
-      ap (option_map (λ (s : State). written config.form false s.entries)) (data_sent false x [] [] (part_of k.Top 0 None) (part_of k.Top 0 None) [] said refl refl none)
+      ap (option_map (λ (s : State). written config.is_form false s.entries)) (data_sent false x [] [] (part_of k.Top 0 None) (part_of k.Top 0 None) [] said refl refl none)

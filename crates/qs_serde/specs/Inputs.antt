@@ -8,12 +8,12 @@ use Rattle.qs_serde.specs.declared.reading.path_error.PathError.{PathError}
 
 -- the input has a tree under a configuration
 abbrev pub HasTree : Config → List ℕ → Type 0
-HasTree config input = (tree : Tree) × IsTree config.form config.max_depth input tree
+HasTree config input = (tree : Tree) × IsTree config.is_form config.max_depth input tree
 
 -- If the input has no tree, the error is `Parse`, at a position of at most the length plus one. If it has a tree, the error is `Custom` or
 -- `Utf8`. Or an allocation failed.
 abbrev pub IsErrorOf : Config → List ℕ → Error → Type 0
-IsErrorOf config input (Parse message position) = HasNoTree config.form config.max_depth input × (position ≤ length input + 1)
+IsErrorOf config input (Parse message position) = HasNoTree config.is_form config.max_depth input × (position ≤ length input + 1)
 IsErrorOf config input (Custom message) = HasTree config input
 IsErrorOf config input (Utf8 cause) = HasTree config input
 IsErrorOf config input OutOfMemory = ⊤

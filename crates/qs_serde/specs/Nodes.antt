@@ -1,6 +1,6 @@
 -- What a step may read: a node of the tree, or a key that leads to it.
 use Rattle.std.specs.Prelude.{◌≡◌, false, List, [], ◌∷◌, Option, Some, None, option_map}
-use Rattle.qs_spec.specs.Segment.{segment_text, MarkedSegment}
+use Rattle.qs_spec.specs.Segment.{segment_text, ParsedSegment}
 use Rattle.qs_spec.specs.Leaf.Leaf.{NoValue, Text}
 use Rattle.qs_spec.specs.Tree.{Tree}
 use Rattle.qs_spec.specs.Tree.Tree.{leaf, sequence, mapping}
@@ -17,18 +17,18 @@ node_tree (n.Key k) = leaf (Text (segment_text (segment_of_key k.now)) false)
 node_tree n.EmptyKey = leaf (Text [] false)
 
 -- the entries of a map; a text is an entry under the empty key
-abbrev pub pairs_in : Tree → List (MarkedSegment × Tree)
+abbrev pub pairs_in : Tree → List (ParsedSegment × Tree)
 pairs_in (mapping es) = entry_list es
 pairs_in (leaf (Text t mark)) = entry_list (under_empty (leaf (Text t mark)))
 pairs_in _ = []
 
 -- the text of an entry's key
-abbrev pub key_tree : Option (MarkedSegment × Tree) → Tree
+abbrev pub key_tree : Option (ParsedSegment × Tree) → Tree
 key_tree None = leaf (Text [] false)
-key_tree (Some entry) = leaf (Text (segment_text entry.0.seg) false)
+key_tree (Some entry) = leaf (Text (segment_text entry.0.segment) false)
 
 -- the entry has this key and this value
-abbrev pub IsEntry : Option (MarkedSegment × Tree) → Node → Tree → Type 0
+abbrev pub IsEntry : Option (ParsedSegment × Tree) → Node → Tree → Type 0
 IsEntry entry key value = (node_tree key ≡ key_tree entry) × (option_map (λ e. e.1) entry ≡ Some value)
 
 -- the items of a list, each at its index

@@ -20,33 +20,33 @@ blank = record { taken = Some []; failed = false; writer = 0; started = false }
 -- the writer has the text of these entries
 pub record Holds (config : Config) (w : Writer) (es : List Entry) : Type 0 where
   pub settings : w.config ≡ config
-  pub adds : Adds config.form blank (state_of w) es
+  pub adds : Adds config.is_form blank (state_of w) es
 
 -- the part of a level has this segment, and the path had this length before it
 abbrev pub PartIs : Bool → Path → Option ℕ → Option (List ℕ) → Type 0
-PartIs form path None None = ⊤
-PartIs form path None (Some segment) = ⊥
-PartIs form path (Some len) None = ⊥
-PartIs form path (Some len) (Some segment) = len ≡ length (path_after form path)
+PartIs is_form path None None = ⊤
+PartIs is_form path None (Some segment) = ⊥
+PartIs is_form path (Some len) None = ⊥
+PartIs is_form path (Some len) (Some segment) = len ≡ length (path_after is_form path)
 
 -- a level, with the path of what is around it
-pub record IsLevel (form : Bool) (path : Path) (frame : Frame) (l : Level) : Type 0 where
+pub record IsLevel (is_form : Bool) (path : Path) (frame : Frame) (l : Level) : Type 0 where
   pub kind : frame.kind ≡ l.kind
   pub count : frame.count ≡ l.count
-  pub part : PartIs form path frame.part l.part
+  pub part : PartIs is_form path frame.part l.part
 
 -- the levels around, of which the code has the innermost last
 abbrev pub AreAround : Bool → List Frame → List Level → Type 0
-AreAround form frames [] = frames ≡ []
-AreAround form frames (l ∷ ls) = (rest : List Frame) × (frame : Frame) × (frames ≡ rest ++ frame ∷ []) × IsLevel form (path_of ls) frame l × AreAround form rest ls
+AreAround is_form frames [] = frames ≡ []
+AreAround is_form frames (l ∷ ls) = (rest : List Frame) × (frame : Frame) × (frames ≡ rest ++ frame ∷ []) × IsLevel is_form (path_of ls) frame l × AreAround is_form rest ls
 
 -- the code is in this state
 pub record Stands (config : Config) (p : Position) (s : State) : Type 0 where
   pub holds : Holds config p.writer s.entries
   pub next : p.next ≡ s.next
   pub walk : IsAt config (path_at s) p.writer.walk
-  pub here : IsLevel config.form (path_of s.around) p.frame s.here
-  pub around : AreAround config.form p.around s.around
+  pub here : IsLevel config.is_form (path_of s.around) p.frame s.here
+  pub around : AreAround config.is_form p.around s.around
 
 -- or there was an error before, and the text of these entries is there
 abbrev pub IsIn : Config → Position → State → Type 0

@@ -1,7 +1,7 @@
 -- Where a format is in its tree: the node that the open lists and maps lead to, and what the next step reads.
 use Rattle.std.specs.Prelude.{◌≡◌, ℕ, zero, suc, ◌-◌, List, [], ◌∷◌, ◌++◌, drop, slice_get, Option, Some, None, option_map, option_to_list}
 use Rattle.qs_spec.specs.Leaf.Leaf.{NoValue}
-use Rattle.qs_spec.specs.Segment.{MarkedSegment}
+use Rattle.qs_spec.specs.Segment.{ParsedSegment}
 use Rattle.qs_spec.specs.Tree.{Tree}
 use Rattle.qs_spec.specs.Tree.Tree.{leaf, sequence, mapping}
 use Rattle.qs_spec.specs.Node.{sequence_items}
@@ -20,7 +20,7 @@ item_or t (Some (Some u)) = u
 item_or t _ = t
 
 -- the value of the entry, or else the node
-abbrev pub value_or : Tree → Option (MarkedSegment × Tree) → Tree
+abbrev pub value_or : Tree → Option (ParsedSegment × Tree) → Tree
 value_or t (Some entry) = entry.1
 value_or t None = t
 

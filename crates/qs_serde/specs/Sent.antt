@@ -203,4 +203,4 @@ all_sent config (e ∷ es) s = option_and_then (all_sent config es) (sent config
 
 -- the text that these events have
 abbrev pub text_of_sent : Config → List Event → Option (List ℕ)
-text_of_sent config es = option_map (λ s. written config.form false s.entries) (all_sent config es start)
+text_of_sent config es = option_map (λ s. written config.is_form false s.entries) (all_sent config es start)

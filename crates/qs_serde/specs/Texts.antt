@@ -43,7 +43,7 @@ IsTextOf config log bytes = ∥ IfSome log (λ es. (shown : List Event) × AreSh
 
 -- it is the text of whole entries
 abbrev pub IsTextOfEntries : Config → List ℕ → Type 0
-IsTextOfEntries config bytes = ∥ ((es : List Entry) × (bytes ≡ written config.form false es) × All IsVisible bytes) ∥₁
+IsTextOfEntries config bytes = ∥ ((es : List Entry) × (bytes ≡ written config.is_form false es) × All IsVisible bytes) ∥₁
 
 -- the text of the events that the value sends; nothing is said of errors
 abbrev pub ReturnsTextOf : Config → (Log → Log → Type 0) → Result (String Global) Error → Type 0

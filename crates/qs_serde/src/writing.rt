@@ -3,9 +3,9 @@
 mod frame;
 mod frames;
 mod halt;
-mod kept;
 mod laws;
 mod log;
+mod logging;
 mod position;
 mod serializer;
 mod text;

@@ -49,7 +49,7 @@ mutual
 
   any_places_related : (reject_duplicates : Bool) (i : ℕ) (es : Entries) (ds : Values) → any_places i es ≡ Some ds → ReadsEach reject_duplicates Shape.any (placed i es) ds
   any_places_related reject_duplicates i no_entries ds e = subst (ReadsEach reject_duplicates Shape.any []) (same_Some no_values ds e) ReadsEach.each_end
-  any_places_related reject_duplicates i (entry k mark t es) ds e =
+  any_places_related reject_duplicates i (entry k escaped t es) ds e =
       let g = guarded (is_place i k) (option_and_then (λ d. option_map (one_value d) (any_places (i + 1) es)) (any_data t)) ds e in
       let c = chained (λ d. option_map (one_value d) (any_places (i + 1) es)) (any_data t) ds g.1 in
       let m = mapped (one_value c.0) (any_places (i + 1) es) ds c.2 in
@@ -58,8 +58,8 @@ mutual
 
   any_pairs_related : (reject_duplicates : Bool) (es : Entries) (ps : Pairs) → any_pairs es ≡ Some ps → ReadsPairs reject_duplicates KeyShape.text Shape.any es ps
   any_pairs_related reject_duplicates no_entries ps e = subst (ReadsPairs reject_duplicates KeyShape.text Shape.any no_entries) (same_Some no_pairs ps e) ReadsPairs.pairs_end
-  any_pairs_related reject_duplicates (entry k mark t es) ps e =
+  any_pairs_related reject_duplicates (entry k escaped t es) ps e =
       let a = chained (λ a. option_and_then (λ d. option_map (one_pair a d) (any_pairs es)) (any_data t)) (text_data (segment_text k)) ps e in
       let d = chained (λ d. option_map (one_pair a.0 d) (any_pairs es)) (any_data t) ps a.2 in
       let m = mapped (one_pair a.0 d.0) (any_pairs es) ps d.2 in
-      subst (ReadsPairs reject_duplicates KeyShape.text Shape.any (entry k mark t es)) m.2 (ReadsPairs.pairs_more a.1 (any_related reject_duplicates t d.0 d.1) (any_pairs_related reject_duplicates es m.0 m.1))
+      subst (ReadsPairs reject_duplicates KeyShape.text Shape.any (entry k escaped t es)) m.2 (ReadsPairs.pairs_more a.1 (any_related reject_duplicates t d.0 d.1) (any_pairs_related reject_duplicates es m.0 m.1))

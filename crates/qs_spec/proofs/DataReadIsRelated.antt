@@ -81,11 +81,11 @@ each_related reject_duplicates s h (x ∷ xs) ds e =
 
 pairs_related : (reject_duplicates : Bool) (k : KeyShape) (s : Shape) → Reading reject_duplicates s → (es : Entries) (ps : List (Data × Data)) → read_pairs k (reads reject_duplicates s) es ≡ Some ps → ReadsPairs reject_duplicates k s es (pairs_of ps)
 pairs_related reject_duplicates k s h no_entries ps e = subst (λ (ps : List (Data × Data)). ReadsPairs reject_duplicates k s no_entries (pairs_of ps)) (same_Some [] ps e) ReadsPairs.pairs_end
-pairs_related reject_duplicates k s h (entry key mark t es) ps e =
+pairs_related reject_duplicates k s h (entry key escaped t es) ps e =
     let a = chained (λ a. option_and_then (λ d. with_front (a, d) (read_pairs k (reads reject_duplicates s) es)) (reads reject_duplicates s t)) (key_data k (segment_text key)) ps e in
     let d = chained (λ d. with_front (a.0, d) (read_pairs k (reads reject_duplicates s) es)) (reads reject_duplicates s t) ps a.2 in
     let m = mapped (λ ps. (a.0, d.0) ∷ ps) (read_pairs k (reads reject_duplicates s) es) ps d.2 in
-    subst (λ (ps : List (Data × Data)). ReadsPairs reject_duplicates k s (entry key mark t es) (pairs_of ps)) {x = (a.0, d.0) ∷ m.0} m.2 (ReadsPairs.pairs_more a.1 (h t d.0 d.1) (pairs_related reject_duplicates k s h es m.0 m.1))
+    subst (λ (ps : List (Data × Data)). ReadsPairs reject_duplicates k s (entry key escaped t es) (pairs_of ps)) {x = (a.0, d.0) ∷ m.0} m.2 (ReadsPairs.pairs_more a.1 (h t d.0 d.1) (pairs_related reject_duplicates k s h es m.0 m.1))
 
 pub map_related : (reject_duplicates : Bool) (k : KeyShape) (s : Shape) (n : Tree) (ps : List (Data × Data)) → Reading reject_duplicates s → read_map k (reads reject_duplicates s) n ≡ Some ps → Reads reject_duplicates (Shape.mapping k s) n (Data.mapping (pairs_of ps))
 unfolding read_map

@@ -76,7 +76,7 @@ mutual
 
   sound_pairs : (reject_duplicates : Bool) {k : KeyShape} {s : Shape} {es : Entries} {ps : Pairs} → is_distinct s ≡ true → ReadsPairs reject_duplicates k s es ps → read_pairs k (reads reject_duplicates s) es ≡ Some (pair_list ps)
   sound_pairs reject_duplicates e ReadsPairs.pairs_end = refl
-  sound_pairs reject_duplicates e (ReadsPairs.pairs_more {k} {s} {key} {mark} {n} {es} {a} {d} {ps} i r q) =
+  sound_pairs reject_duplicates e (ReadsPairs.pairs_more {k} {s} {key} {escaped} {n} {es} {a} {d} {ps} i r q) =
       ap (option_and_then (λ b. option_and_then (λ y. with_front (b, y) (read_pairs k (reads reject_duplicates s) es)) (reads reject_duplicates s n))) i
       ∙ ap (option_and_then (λ y. with_front (a, y) (read_pairs k (reads reject_duplicates s) es))) (sound reject_duplicates e r) ∙ ap (with_front (a, d)) (sound_pairs reject_duplicates e q)
 

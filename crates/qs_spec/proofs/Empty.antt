@@ -31,5 +31,5 @@ segment_some (b ∷ raw) h = by (is_index (b ∷ raw))
     by true = refl
     by false = not_empty (decoded (b ∷ raw)) (decoded_some b raw)
 
-pub none_empty : (form : Bool) (depth : ℕ) (bytes : List ℕ) (ps : List Pair) → ArePairs depth (tokens form bytes) ps → NoneEmpty ps
-none_empty form depth bytes ps h = all_segments (λ k. is_same_segment (Str []) k ≡ false) segment_some form depth bytes ps h
+pub none_empty : (is_form : Bool) (depth : ℕ) (bytes : List ℕ) (ps : List Pair) → ArePairs depth (tokens is_form bytes) ps → NoneEmpty ps
+none_empty is_form depth bytes ps h = all_segments (λ k. is_same_segment (Str []) k ≡ false) segment_some is_form depth bytes ps h

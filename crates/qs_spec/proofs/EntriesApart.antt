@@ -140,8 +140,8 @@ less_differ i j l m e = let s = decimal_injective i j (omega arith) (omega arith
 few : (ds : Values) → are_few ds ≡ true → 0 + count ds ≤ 4294967295
 few ds e = grind (arith, nat_tests)
 
-plain_list : (form : Bool) (ds : Values) → (are_few ds && are_plain form ds) ≡ true → (0 + count ds ≤ 4294967295) × (are_plain form ds ≡ true)
-plain_list form ds e = let h = and_both (are_few ds) (are_plain form ds) e in (few ds h.0, h.1)
+plain_list : (is_form : Bool) (ds : Values) → (are_few ds && are_plain is_form ds) ≡ true → (0 + count ds ≤ 4294967295) × (are_plain is_form ds ≡ true)
+plain_list is_form ds e = let h = and_both (are_few ds) (are_plain is_form ds) e in (few ds h.0, h.1)
 
 -- a pair, and the others: nothing where its key has no text
 pair_at : (limit : ℕ) (path : Path) (key : Option (List ℕ)) (ps : Pairs) (part : Path → Output) (b : Output) → is_written_key key ps ≡ false → ((p : Path) → AreApartAt p (part p).entries)
@@ -154,14 +154,14 @@ pair_beside : (limit : ℕ) (path : Path) (t : List ℕ) (key : Option (List ℕ
 pair_beside limit path t None part b n h c = tt
 pair_beside limit path t (Some u) part b n h c = then_beside path t u _ b (not_named t u n) (deeper_at limit path u part (h (path ++ u ∷ []))).0 c
 
-module _ (form : Bool) (limit : ℕ) where
+module _ (is_form : Bool) (limit : ℕ) where
   mutual
     unfolding entries_at elements_from pair_entries member_entries
 
-    data_at : (d : Data) (path : Path) → is_plain form d ≡ true → AreApartAt path (entries_at limit indexed d path).entries
+    data_at : (d : Data) (path : Path) → is_plain is_form d ≡ true → AreApartAt path (entries_at limit indexed d path).entries
     data_at Data.unit path e = one_at path _
     data_at Data.none path e = one_at path _
-    data_at (Data.some d) path e = data_at d path (and_both (not (is_optional d)) (is_plain form d) e).1
+    data_at (Data.some d) path e = data_at d path (and_both (not (is_optional d)) (is_plain is_form d) e).1
     data_at (Data.boolean b) path e = one_at path _
     data_at (Data.unsigned n) path e = one_at path _
     data_at (Data.signed n) path e = one_at path _
@@ -169,74 +169,74 @@ module _ (form : Bool) (limit : ℕ) where
     data_at (Data.text t) path e = one_at path _
     data_at (Data.bytes b) path e = one_at path _
     data_at (Data.sequence no_values) path e = one_at path _
-    data_at (Data.sequence (one_value d ds)) path e = let h = plain_list form (one_value d ds) e in values_at 0 (one_value d ds) path h.0 h.1
+    data_at (Data.sequence (one_value d ds)) path e = let h = plain_list is_form (one_value d ds) e in values_at 0 (one_value d ds) path h.0 h.1
     data_at (Data.tuple no_values) path e = one_at path _
-    data_at (Data.tuple (one_value d ds)) path e = let h = plain_list form (one_value d ds) e in values_at 0 (one_value d ds) path h.0 h.1
+    data_at (Data.tuple (one_value d ds)) path e = let h = plain_list is_form (one_value d ds) e in values_at 0 (one_value d ds) path h.0 h.1
     data_at (Data.mapping no_pairs) path e = one_at path _
     data_at (Data.mapping (one_pair k d ps)) path e =
-        let h = and_both (written_keys_differ (one_pair k d ps)) (are_plain_pairs form (one_pair k d ps)) e in pairs_at (one_pair k d ps) path h.0 h.1
+        let h = and_both (written_keys_differ (one_pair k d ps)) (are_plain_pairs is_form (one_pair k d ps)) e in pairs_at (one_pair k d ps) path h.0 h.1
     data_at (Data.struct ms) path e =
-        let h = and_both (has_members ms && member_names_differ ms) (are_plain_members form ms) e in
+        let h = and_both (has_members ms && member_names_differ ms) (are_plain_members is_form ms) e in
         members_at ms path (and_both (has_members ms) (member_names_differ ms) h.0).1 h.1
     data_at (Data.newtype d) path e = data_at d path e
     data_at (Data.unit_variant name) path e = one_at path _
     data_at (Data.newtype_variant name d) path e =
-        let h = and_both (is_plain_name form name) (is_plain form d) e in
+        let h = and_both (is_plain_name is_form name) (is_plain is_form d) e in
         alone_at path name _ (deeper_at limit path name (entries_at limit indexed d) (data_at d (path ++ name ∷ []) h.1))
     data_at (Data.tuple_variant name ds) path e =
-        let h = and_both (is_plain_name form name && has_values ds && are_few ds) (are_plain form ds) e in
-        let g = and_both (is_plain_name form name && has_values ds) (are_few ds) h.0 in
+        let h = and_both (is_plain_name is_form name && has_values ds && are_few ds) (are_plain is_form ds) e in
+        let g = and_both (is_plain_name is_form name && has_values ds) (are_few ds) h.0 in
         alone_at path name _ (deeper_at limit path name (elements_from limit indexed 0 ds) (values_at 0 ds (path ++ name ∷ []) (few ds g.1) h.1))
     data_at (Data.struct_variant name ms) path e =
-        let h = and_both (is_plain_name form name && has_members ms && member_names_differ ms) (are_plain_members form ms) e in
-        let g = and_both (is_plain_name form name && has_members ms) (member_names_differ ms) h.0 in
+        let h = and_both (is_plain_name is_form name && has_members ms && member_names_differ ms) (are_plain_members is_form ms) e in
+        let g = and_both (is_plain_name is_form name && has_members ms) (member_names_differ ms) h.0 in
         alone_at path name _ (deeper_at limit path name (member_entries limit indexed ms) (members_at ms (path ++ name ∷ []) g.1 h.1))
 
-    values_at : (i : ℕ) (ds : Values) (path : Path) → i + count ds ≤ 4294967295 → are_plain form ds ≡ true → AreApartAt path (elements_from limit indexed i ds path).entries
+    values_at : (i : ℕ) (ds : Values) (path : Path) → i + count ds ≤ 4294967295 → are_plain is_form ds ≡ true → AreApartAt path (elements_from limit indexed i ds path).entries
     values_at i no_values path l e = nothing_at path
     values_at i (one_value d ds) path l e =
-        let h = and_both (is_plain form d) (are_plain form ds) e in
+        let h = and_both (is_plain is_form d) (are_plain is_form ds) e in
         then_at path (decimal i) _ (elements_from limit indexed (i + 1) ds path) (deeper_at limit path (decimal i) (entries_at limit indexed d) (data_at d (path ++ decimal i ∷ []) h.0))
         (values_beside i (i + 1) ds path (omega arith) (omega arith) h.1) (values_at (i + 1) ds path (omega arith) h.1)
 
-    values_beside : (i j : ℕ) (ds : Values) (path : Path) → i < j → j + count ds ≤ 4294967295 → are_plain form ds ≡ true → AllBeside path (decimal i) (elements_from limit indexed j ds path).entries
+    values_beside : (i j : ℕ) (ds : Values) (path : Path) → i < j → j + count ds ≤ 4294967295 → are_plain is_form ds ≡ true → AllBeside path (decimal i) (elements_from limit indexed j ds path).entries
     values_beside i j no_values path l m e = tt
     values_beside i j (one_value d ds) path l m e =
-        let h = and_both (is_plain form d) (are_plain form ds) e in
+        let h = and_both (is_plain is_form d) (are_plain is_form ds) e in
         then_beside path (decimal i) (decimal j) _ (elements_from limit indexed (j + 1) ds path) (less_differ i j l (omega arith)) (deeper_at limit path (decimal j) (entries_at limit indexed d) (data_at d (path ++ decimal j ∷ []) h.0)).0
         (values_beside i (j + 1) ds path (omega arith) (omega arith) h.1)
 
-    pairs_at : (ps : Pairs) (path : Path) → written_keys_differ ps ≡ true → are_plain_pairs form ps ≡ true → AreApartAt path (pair_entries limit indexed ps path).entries
+    pairs_at : (ps : Pairs) (path : Path) → written_keys_differ ps ≡ true → are_plain_pairs is_form ps ≡ true → AreApartAt path (pair_entries limit indexed ps path).entries
     pairs_at no_pairs path u e = nothing_at path
     pairs_at (one_pair k d ps) path u e =
         let g = and_both (not (is_written_key (key_text k) ps)) (written_keys_differ ps) u in
-        let h = and_both (is_plain_key form k && is_plain form d) (are_plain_pairs form ps) e in
-        let x = and_both (is_plain_key form k) (is_plain form d) h.0 in
+        let h = and_both (is_plain_key is_form k && is_plain is_form d) (are_plain_pairs is_form ps) e in
+        let x = and_both (is_plain_key is_form k) (is_plain is_form d) h.0 in
         pair_at limit path (key_text k) ps (entries_at limit indexed d) (pair_entries limit indexed ps path) (not_of (is_written_key (key_text k) ps) g.0) (λ p. data_at d p x.1) (λ t n. pairs_beside t ps path n h.1) (pairs_at ps path g.1 h.1)
 
-    pairs_beside : (t : List ℕ) (ps : Pairs) (path : Path) → is_written_key (Some t) ps ≡ false → are_plain_pairs form ps ≡ true → AllBeside path t (pair_entries limit indexed ps path).entries
+    pairs_beside : (t : List ℕ) (ps : Pairs) (path : Path) → is_written_key (Some t) ps ≡ false → are_plain_pairs is_form ps ≡ true → AllBeside path t (pair_entries limit indexed ps path).entries
     pairs_beside t no_pairs path n e = tt
     pairs_beside t (one_pair k d ps) path n e =
         let g = or_both (is_text_of t (key_text k)) (is_written_key (Some t) ps) n in
-        let h = and_both (is_plain_key form k && is_plain form d) (are_plain_pairs form ps) e in
-        pair_beside limit path t (key_text k) (entries_at limit indexed d) (pair_entries limit indexed ps path) g.0 (λ p. data_at d p (and_both (is_plain_key form k) (is_plain form d) h.0).1) (pairs_beside t ps path g.1 h.1)
+        let h = and_both (is_plain_key is_form k && is_plain is_form d) (are_plain_pairs is_form ps) e in
+        pair_beside limit path t (key_text k) (entries_at limit indexed d) (pair_entries limit indexed ps path) g.0 (λ p. data_at d p (and_both (is_plain_key is_form k) (is_plain is_form d) h.0).1) (pairs_beside t ps path g.1 h.1)
 
-    members_at : (ms : Members) (path : Path) → member_names_differ ms ≡ true → are_plain_members form ms ≡ true → AreApartAt path (member_entries limit indexed ms path).entries
+    members_at : (ms : Members) (path : Path) → member_names_differ ms ≡ true → are_plain_members is_form ms ≡ true → AreApartAt path (member_entries limit indexed ms path).entries
     members_at no_members path u e = nothing_at path
     members_at (one_member n d ms) path u e =
         let g = and_both (not (is_member_name n ms)) (member_names_differ ms) u in
-        let h = and_both (is_plain_name form n && is_plain form d) (are_plain_members form ms) e in
-        then_at path n _ (member_entries limit indexed ms path) (deeper_at limit path n (entries_at limit indexed d) (data_at d (path ++ n ∷ []) (and_both (is_plain_name form n) (is_plain form d) h.0).1))
+        let h = and_both (is_plain_name is_form n && is_plain is_form d) (are_plain_members is_form ms) e in
+        then_at path n _ (member_entries limit indexed ms path) (deeper_at limit path n (entries_at limit indexed d) (data_at d (path ++ n ∷ []) (and_both (is_plain_name is_form n) (is_plain is_form d) h.0).1))
         (members_beside n ms path (not_of (is_member_name n ms) g.0) h.1) (members_at ms path g.1 h.1)
 
-    members_beside : (s : List ℕ) (ms : Members) (path : Path) → is_member_name s ms ≡ false → are_plain_members form ms ≡ true → AllBeside path s (member_entries limit indexed ms path).entries
+    members_beside : (s : List ℕ) (ms : Members) (path : Path) → is_member_name s ms ≡ false → are_plain_members is_form ms ≡ true → AllBeside path s (member_entries limit indexed ms path).entries
     members_beside s no_members path u e = tt
     members_beside s (one_member n d ms) path u e =
         let g = or_both (bytes_eq n s) (is_member_name s ms) u in
-        let h = and_both (is_plain_name form n && is_plain form d) (are_plain_members form ms) e in
+        let h = and_both (is_plain_name is_form n && is_plain is_form d) (are_plain_members is_form ms) e in
         then_beside path s n _ (member_entries limit indexed ms path) (not_named s n g.0)
-        (deeper_at limit path n (entries_at limit indexed d) (data_at d (path ++ n ∷ []) (and_both (is_plain_name form n) (is_plain form d) h.0).1)).0 (members_beside s ms path g.1 h.1)
+        (deeper_at limit path n (entries_at limit indexed d) (data_at d (path ++ n ∷ []) (and_both (is_plain_name is_form n) (is_plain is_form d) h.0).1)).0 (members_beside s ms path g.1 h.1)
 
 -- No entry of plain data has the path of another, or one that begins it, whatever the depth limit leaves of them.
-pub entries_apart : (config : Config) (d : Data) → config.array_format ≡ indexed → is_plain config.form d ≡ true → ArePathsApart (entries config d).entries
-entries_apart config d e p = subst (λ f. ArePathsApart (entries_at config.max_depth f d []).entries) (sym e) (data_at config.form config.max_depth d [] p).1
+pub entries_apart : (config : Config) (d : Data) → config.array_format ≡ indexed → is_plain config.is_form d ≡ true → ArePathsApart (entries config d).entries
+entries_apart config d e p = subst (λ f. ArePathsApart (entries_at config.max_depth f d []).entries) (sym e) (data_at config.is_form config.max_depth d [] p).1

@@ -11,9 +11,9 @@ use Rattle.qs_spec.proofs.Order.{put_lt}
 use Rattle.qs_spec.proofs.KeysBack.{place_back}
 use Rattle.qs_spec.specs.Plain.{count}
 use Rattle.qs_spec.specs.internal.Parts.{value_branches}
-use Rattle.qs_spec.proofs.Branches.{seg, keys}
+use Rattle.qs_spec.proofs.Branches.{segment, keys}
 
-module _ (fm : ArrayFormat) (form : Bool) where
+module _ (fm : ArrayFormat) (is_form : Bool) where
   -- the keys of indices
   abbrev ints : ℕ → Values → List Segment
   ints i no_values = []
@@ -25,9 +25,9 @@ module _ (fm : ArrayFormat) (form : Bool) where
       less : (i : ℕ) → nat_lt i (i + 1) ≡ true
       less i = grind (arith, nat_tests)
 
-  keys_are : (i : ℕ) (ds : Values) → i + count ds ≤ 4294967295 → keys form (value_branches fm i ds) ≡ ints i ds
+  keys_are : (i : ℕ) (ds : Values) → i + count ds ≤ 4294967295 → keys is_form (value_branches fm i ds) ≡ ints i ds
   keys_are i no_values l = refl
-  keys_are i (one_value d ds) l = ap₂ put (place_back form i (omega arith)) (keys_are (i + 1) ds (omega arith)) ∙ first ds
+  keys_are i (one_value d ds) l = ap₂ put (place_back is_form i (omega arith)) (keys_are (i + 1) ds (omega arith)) ∙ first ds
     where
       first : (ds : Values) → put (Int i) (ints (i + 1) ds) ≡ Int i ∷ ints (i + 1) ds
       first no_values = refl
@@ -35,23 +35,23 @@ module _ (fm : ArrayFormat) (form : Bool) where
 
   abbrev pub value_trees : (Segment → Tree) → ℕ → Values → List (Option Tree)
   value_trees f i no_values = []
-  value_trees f i (one_value d ds) = Some (f (seg form (decimal i))) ∷ value_trees f (i + 1) ds
+  value_trees f i (one_value d ds) = Some (f (segment is_form (decimal i))) ∷ value_trees f (i + 1) ds
 
-  module _ (mark : Segment → Bool) (f : Segment → Tree) where
-    int_keys : (i : ℕ) (ds : Values) → are_ints (entries_of mark f (ints i ds)) ≡ true
+  module _ (escaped : Segment → Bool) (f : Segment → Tree) where
+    int_keys : (i : ℕ) (ds : Values) → are_ints (entries_of escaped f (ints i ds)) ≡ true
     int_keys i no_values = refl
     int_keys i (one_value d ds) = int_keys (i + 1) ds
 
     in_place : (i : ℕ) → i < 4294967295 → is_place i (Int i) ≡ true
     in_place i l = grind (arith, nat_tests)
 
-    in_places : (i : ℕ) (ds : Values) → i + count ds ≤ 4294967295 → placed i (entries_of mark f (ints i ds)) ≡ value_trees f i ds
+    in_places : (i : ℕ) (ds : Values) → i + count ds ≤ 4294967295 → placed i (entries_of escaped f (ints i ds)) ≡ value_trees f i ds
     in_places i no_values l = refl
     in_places i (one_value d ds) l =
         ap₂ (λ (b : Bool) (xs : List (Option Tree)). cond b (Some (f (Int i))) None ∷ xs) (in_place i (omega arith)) (in_places (i + 1) ds (omega arith))
-        ∙ ap (λ k. Some (f k) ∷ value_trees f (i + 1) ds) (sym (place_back form i (omega arith)))
+        ∙ ap (λ k. Some (f k) ∷ value_trees f (i + 1) ds) (sym (place_back is_form i (omega arith)))
 
-    pub items_are : (ds : Values) → 0 + count ds ≤ 4294967295 → items (Tree.mapping (entries_of mark f (keys form (value_branches fm 0 ds)))) ≡ Some (value_trees f 0 ds)
+    pub items_are : (ds : Values) → 0 + count ds ≤ 4294967295 → items (Tree.mapping (entries_of escaped f (keys is_form (value_branches fm 0 ds)))) ≡ Some (value_trees f 0 ds)
     items_are ds l =
-        ap (λ (ks : List Segment). items (Tree.mapping (entries_of mark f ks))) (keys_are 0 ds l)
+        ap (λ (ks : List Segment). items (Tree.mapping (entries_of escaped f ks))) (keys_are 0 ds l)
         ∙ ap₂ (λ (b : Bool) (xs : List (Option Tree)). cond b (Some xs) None) (int_keys 0 ds) (in_places 0 ds l)

@@ -2,14 +2,14 @@
 use Rattle.std.proofs.Common.{◌≡◌, ℕ, zero, suc, max, ◌+◌, ◌≤◌, ◌<◌, Bool, true, false, cond, ◌||◌, List, [], ◌∷◌, length, refl, sym, ap, ap₂, ◌∙◌, subst, arith, Ordering, Less, Equal, Greater, is_eq, length-append, suc-le-suc}
 use Rattle.std.specs.List.{list_any, AllByRecursion}
 use Rattle.std.specs.Ordering.{ordering_reverse}
-use Rattle.qs_spec.specs.Segment.{Segment, MarkedSegment}
+use Rattle.qs_spec.specs.Segment.{Segment, ParsedSegment}
 use Rattle.qs_spec.specs.Leaf.{Leaf}
 use Rattle.qs_spec.specs.Token.{Token}
 use Rattle.qs_spec.specs.Grammar.{Pair, IsPair, IsBrackets, ArePairs, root}
 use Rattle.qs_spec.specs.History.{Event, event_of, events, is_below, is_push, under}
-use Rattle.qs_spec.specs.Tree.{leaves_in, leaf_items, flat, heads, put_head, put, filled, filled_path, head_mark, entries_of, node_within, longest, Tree}
+use Rattle.qs_spec.specs.Tree.{leaves_in, leaf_items, node_of_leaves, heads, put_head, put, filled, filled_path, head_escaped, entries_of, node_within, longest, Tree}
 use Rattle.qs_spec.specs.Segment.{compare_segments, is_same_segment}
-use Rattle.qs_spec.specs.History.Event.{direct, push, below}
+use Rattle.qs_spec.specs.History.Event.{assign, push, below}
 use Rattle.qs_spec.specs.Holds.{leaf_count, items_leaf_count, entries_leaf_count, nesting, items_nesting, entries_nesting}
 use Rattle.qs_spec.proofs.Order.{exact_segment, segments_total, put_lt, put_eq, put_gt}
 use Rattle.qs_spec.proofs.TreeOf.{none_under}
@@ -45,9 +45,9 @@ pub ascends_heads : (ps : List Pair) → Ascends (heads ps)
 ascends_heads [] = tt
 ascends_heads (p ∷ ps) = by p.path (ascends_heads ps)
   where
-    by : (path : List MarkedSegment) → Ascends (heads ps) → Ascends (put_head path (heads ps))
+    by : (path : List ParsedSegment) → Ascends (heads ps) → Ascends (put_head path (heads ps))
     by [] h = h
-    by (s ∷ path) h = ascends_put s.seg (heads ps) h
+    by (s ∷ path) h = ascends_put s.segment (heads ps) h
 
 abbrev one_if : Bool → ℕ
 one_if true = 1
@@ -108,7 +108,7 @@ pub longer_filled : (ps : List Pair) → list_any is_push (events ps []) ≡ fal
 longer_filled [] e = tt
 longer_filled (p ∷ ps) e = by p.path p.push e (longer_filled ps)
   where
-    by : (path : List MarkedSegment) (b : Bool) → (is_push (event_of path b p.leaf) || list_any is_push (events ps [])) ≡ false → (list_any is_push (events ps []) ≡ false → AllLonger (filled ps)) → (0 < length (filled_path path b)) × AllLonger (filled ps)
+    by : (path : List ParsedSegment) (b : Bool) → (is_push (event_of path b p.leaf) || list_any is_push (events ps [])) ≡ false → (list_any is_push (events ps []) ≡ false → AllLonger (filled ps)) → (0 < length (filled_path path b)) × AllLonger (filled ps)
     by [] true e h = cc
     by [] false e h = (omega arith, h e)
     by (s ∷ path) b e h = (omega arith, h e)
@@ -121,7 +121,7 @@ pub longest_filled : (n : ℕ) (ps : List Pair) → longest ps ≤ suc n → lon
 longest_filled n [] l = l
 longest_filled n (p ∷ ps) l = by p.path p.push l (longest_filled n ps)
   where
-    by : (path : List MarkedSegment) (b : Bool) → max (length path) (longest ps) ≤ suc n → (longest ps ≤ suc n → longest (filled ps) ≤ suc n) → max (length (filled_path path b)) (longest (filled ps)) ≤ suc n
+    by : (path : List ParsedSegment) (b : Bool) → max (length path) (longest ps) ≤ suc n → (longest ps ≤ suc n → longest (filled ps) ≤ suc n) → max (length (filled_path path b)) (longest (filled ps)) ≤ suc n
     by [] true l h = let m : longest (filled ps) ≤ suc n = h (omega arith) in omega arith
     by [] false l h = let m : longest (filled ps) ≤ suc n = h (omega arith) in omega arith
     by (s ∷ path) b l h = let m : longest (filled ps) ≤ suc n = h (omega arith) in omega arith
@@ -131,17 +131,17 @@ pub counted : (ps : List Pair) → AllLonger ps → total (λ k. length (under k
 counted [] h = refl
 counted (p ∷ ps) h = by p.path h.0 (counted ps h.1)
   where
-    at_key : (s : MarkedSegment) (path : List MarkedSegment) (k : Segment) → length (under k (record p { path = s ∷ path } ∷ ps)) ≡ one_if (is_same_segment k s.seg) + length (under k ps)
-    at_key s path k = each (is_same_segment k s.seg)
+    at_key : (s : ParsedSegment) (path : List ParsedSegment) (k : Segment) → length (under k (record p { path = s ∷ path } ∷ ps)) ≡ one_if (is_same_segment k s.segment) + length (under k ps)
+    at_key s path k = each (is_same_segment k s.segment)
       where
         each : (b : Bool) → length (cond b (record p { path = path } ∷ under k ps) (under k ps)) ≡ one_if b + length (under k ps)
         each true = omega arith
         each false = omega arith
 
-    by : (path : List MarkedSegment) → 0 < length path → total (λ k. length (under k ps)) (heads ps) ≡ length ps → total (λ k. length (under k (record p { path = path } ∷ ps))) (put_head path (heads ps)) ≡ suc (length ps)
+    by : (path : List ParsedSegment) → 0 < length path → total (λ k. length (under k ps)) (heads ps) ≡ length ps → total (λ k. length (under k (record p { path = path } ∷ ps))) (put_head path (heads ps)) ≡ suc (length ps)
     by [] l e = absurd (omega arith)
     by (s ∷ path) l e =
-        one_more s.seg (λ k. length (under k (record p { path = s ∷ path } ∷ ps))) (λ k. length (under k ps)) (at_key s path) (heads ps) (ascends_heads ps) (λ n. ap length (none_under s.seg ps n))
+        one_more s.segment (λ k. length (under k (record p { path = s ∷ path } ∷ ps))) (λ k. length (under k ps)) (at_key s path) (heads ps) (ascends_heads ps) (λ n. ap length (none_under s.segment ps n))
         ∙ ap suc e
 
 pub entries_counted : (m : Segment → Bool) (f : Segment → Tree) (g : Segment → ℕ) → ((k : Segment) → leaf_count (f k) ≡ g k) → (ks : List Segment) → entries_leaf_count (entries_of m f ks) ≡ total g ks
@@ -150,7 +150,7 @@ entries_counted m f g h (k ∷ ks) = ap₂ (λ a b. a + b) (h k) (entries_counte
 
 leaves_counted : (h : List Event) → list_any is_below h ≡ false → length (leaves_in h) ≡ length h
 leaves_counted [] e = refl
-leaves_counted (direct l ∷ h) e = ap suc (leaves_counted h e)
+leaves_counted (assign l ∷ h) e = ap suc (leaves_counted h e)
 leaves_counted (push l ∷ h) e = ap suc (leaves_counted h e)
 leaves_counted (below ∷ h) e = cc
 
@@ -158,18 +158,18 @@ items_counted : (ls : List Leaf) → items_leaf_count (leaf_items ls) ≡ length
 items_counted [] = refl
 items_counted (l ∷ ls) = omega (arith, items_counted ls)
 
-pub flat_counted : (h : List Event) → list_any is_below h ≡ false → leaf_count (flat h) ≡ length h
-flat_counted [] e = refl
-flat_counted (direct l ∷ []) e = refl
-flat_counted (direct l ∷ d ∷ h) e = items_counted (leaves_in (direct l ∷ d ∷ h)) ∙ leaves_counted (direct l ∷ d ∷ h) e
-flat_counted (push l ∷ h) e = items_counted (leaves_in (push l ∷ h)) ∙ leaves_counted (push l ∷ h) e
-flat_counted (below ∷ h) e = cc
+pub leaves_counted_all : (h : List Event) → list_any is_below h ≡ false → leaf_count (node_of_leaves h) ≡ length h
+leaves_counted_all [] e = refl
+leaves_counted_all (assign l ∷ []) e = refl
+leaves_counted_all (assign l ∷ d ∷ h) e = items_counted (leaves_in (assign l ∷ d ∷ h)) ∙ leaves_counted (assign l ∷ d ∷ h) e
+leaves_counted_all (push l ∷ h) e = items_counted (leaves_in (push l ∷ h)) ∙ leaves_counted (push l ∷ h) e
+leaves_counted_all (below ∷ h) e = cc
 
 pub none_below : (ps : List Pair) → longest ps ≤ 0 → list_any is_below (events ps []) ≡ false
 none_below [] l = refl
 none_below (p ∷ ps) l = by p.path p.push l (none_below ps)
   where
-    by : (path : List MarkedSegment) (b : Bool) → max (length path) (longest ps) ≤ 0 → (longest ps ≤ 0 → list_any is_below (events ps []) ≡ false) → list_any is_below (event_of path b p.leaf ∷ events ps []) ≡ false
+    by : (path : List ParsedSegment) (b : Bool) → max (length path) (longest ps) ≤ 0 → (longest ps ≤ 0 → list_any is_below (events ps []) ≡ false) → list_any is_below (event_of path b p.leaf ∷ events ps []) ≡ false
     by [] true l h = h (omega arith)
     by [] false l h = h (omega arith)
     by (s ∷ path) b l h = absurd (omega arith)
@@ -183,32 +183,32 @@ items_nest : (ls : List Leaf) → items_nesting (leaf_items ls) ≡ 0
 items_nest [] = refl
 items_nest (l ∷ ls) = omega (arith, items_nest ls)
 
-flat_nest : (h : List Event) → nesting (flat h) ≡ 0
-flat_nest [] = refl
-flat_nest (direct l ∷ []) = refl
-flat_nest (direct l ∷ d ∷ h) = items_nest (leaves_in (direct l ∷ d ∷ h))
-flat_nest (push l ∷ h) = items_nest (leaves_in (push l ∷ h))
-flat_nest (below ∷ h) = items_nest (leaves_in (below ∷ h))
+node_of_leaves_nest : (h : List Event) → nesting (node_of_leaves h) ≡ 0
+node_of_leaves_nest [] = refl
+node_of_leaves_nest (assign l ∷ []) = refl
+node_of_leaves_nest (assign l ∷ d ∷ h) = items_nest (leaves_in (assign l ∷ d ∷ h))
+node_of_leaves_nest (push l ∷ h) = items_nest (leaves_in (push l ∷ h))
+node_of_leaves_nest (below ∷ h) = items_nest (leaves_in (below ∷ h))
 
 pub nesting_within : (n : ℕ) (ps : List Pair) → nesting (node_within n ps) ≤ n
-nesting_within zero ps = omega (arith, flat_nest (events ps []))
-nesting_within (suc n) ps = by (list_any is_below (events ps [])) (entries_nest n (λ k. head_mark k (filled ps)) (λ k. node_within n (under k (filled ps))) (λ k. nesting_within n (under k (filled ps))) (heads (filled ps)))
+nesting_within zero ps = omega (arith, node_of_leaves_nest (events ps []))
+nesting_within (suc n) ps = by (list_any is_below (events ps [])) (entries_nest n (λ k. head_escaped k (filled ps)) (λ k. node_within n (under k (filled ps))) (λ k. nesting_within n (under k (filled ps))) (heads (filled ps)))
   where
-    by : (b : Bool) → entries_nesting (entries_of (λ k. head_mark k (filled ps)) (λ k. node_within n (under k (filled ps))) (heads (filled ps))) ≤ n
-        → nesting (cond b (Tree.mapping (entries_of (λ k. head_mark k (filled ps)) (λ k. node_within n (under k (filled ps))) (heads (filled ps)))) (flat (events ps []))) ≤ suc n
+    by : (b : Bool) → entries_nesting (entries_of (λ k. head_escaped k (filled ps)) (λ k. node_within n (under k (filled ps))) (heads (filled ps))) ≤ n
+        → nesting (cond b (Tree.mapping (entries_of (λ k. head_escaped k (filled ps)) (λ k. node_within n (under k (filled ps))) (heads (filled ps)))) (node_of_leaves (events ps []))) ≤ suc n
     by true l = suc-le-suc l
-    by false l = omega (arith, flat_nest (events ps []))
+    by false l = omega (arith, node_of_leaves_nest (events ps []))
 
 -- no path is longer than the depth and two
 root_short : (key : List Token) → length (root key) ≤ 1
 root_short [] = omega arith
 root_short (t ∷ key) = omega arith
 
-brackets_short : {room : ℕ} {path : List MarkedSegment} {bracket : List ℕ} {ts : List Token} {p : Pair} → IsBrackets room path bracket ts p → length p.path ≤ length path + room + 1
+brackets_short : {room : ℕ} {path : List ParsedSegment} {bracket : List ℕ} {ts : List Token} {p : Pair} → IsBrackets room path bracket ts p → length p.path ≤ length path + room + 1
 brackets_short (IsBrackets.push e v) = omega arith
-brackets_short (IsBrackets.segment {path = path} s t run value r e v) = omega (arith, length-append {A = MarkedSegment})
-brackets_short (IsBrackets.more {path = path} s t u run rest r e d b) = omega (arith, length-append {A = MarkedSegment}, brackets_short b)
-brackets_short (IsBrackets.last {path = path} t run value e r v) = omega (arith, length-append {A = MarkedSegment})
+brackets_short (IsBrackets.segment {path = path} s t run value r e v) = omega (arith, length-append {A = ParsedSegment})
+brackets_short (IsBrackets.more {path = path} s t u run rest r e d b) = omega (arith, length-append {A = ParsedSegment}, brackets_short b)
+brackets_short (IsBrackets.last {path = path} t run value e r v) = omega (arith, length-append {A = ParsedSegment})
 
 pair_short : {depth : ℕ} {ts : List Token} {p : Pair} → IsPair depth ts p → length p.path ≤ depth + 2
 pair_short (IsPair.name {t} {key} r) = omega arith

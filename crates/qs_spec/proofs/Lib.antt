@@ -8,7 +8,7 @@ pub mod OnLiterals
 pub mod Leaves
 pub mod OneMore
 pub mod Update
-pub mod Flat
+pub mod NodesOfLeaves
 pub mod Insert
 pub mod LeafCount
 pub mod Segments
@@ -17,7 +17,7 @@ pub mod Scan
 pub mod Sound
 pub mod Reorder
 pub mod Places
-pub mod Marks
+pub mod IgnoringEscapes
 pub mod Equivalent
 pub mod Unescaped
 pub mod ReadOn

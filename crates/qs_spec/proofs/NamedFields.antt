@@ -14,34 +14,34 @@ use Rattle.qs_spec.proofs.VariantNames.{bytes_same, bytes_equal}
 use Rattle.qs_spec.specs.Plain.{is_member_name}
 use Rattle.qs_spec.specs.internal.Fitting.{FitsFields}
 use Rattle.qs_spec.specs.internal.Parts.{Branch, member_branches}
-use Rattle.qs_spec.proofs.Branches.{seg, IsOther, SegsDiffer, keys, all_both}
+use Rattle.qs_spec.proofs.Branches.{segment, IsOther, SegsDiffer, keys, all_both}
 use Rattle.qs_spec.proofs.AtKeys.{found_other, found_own, tested_put}
 use Rattle.qs_spec.proofs.GoodParts.{AreGood, all_to}
 
-module _ (fm : ArrayFormat) (form : Bool) where
-  module _ (mark : Segment → Bool) (f : Segment → Tree) where
+module _ (fm : ArrayFormat) (is_form : Bool) where
+  module _ (escaped : Segment → Bool) (f : Segment → Tree) where
     -- what is found by a name
-    pub none_found : (name : List ℕ) (bs : List Branch) → AreGood fm form bs → AllByRecursion (λ (b : Branch). bytes_eq b.0 name ≡ false) bs → found name (entries_of mark f (keys form bs)) ≡ []
+    pub none_found : (name : List ℕ) (bs : List Branch) → AreGood fm is_form bs → AllByRecursion (λ (b : Branch). bytes_eq b.0 name ≡ false) bs → found name (entries_of escaped f (keys is_form bs)) ≡ []
     none_found name [] g h = refl
     none_found name (b ∷ bs) g h =
-        found_other mark f name (seg form b.0) (keys form bs) (ap (λ (s : List ℕ). bytes_eq s name) g.0.0.1 ∙ h.0) ∙ none_found name bs g.1 h.1
+        found_other escaped f name (segment is_form b.0) (keys is_form bs) (ap (λ (s : List ℕ). bytes_eq s name) g.0.0.1 ∙ h.0) ∙ none_found name bs g.1 h.1
 
     -- segments that differ are of names that differ
-    other_name : (b c : Branch) → IsOther form b.0 c → bytes_eq c.0 b.0 ≡ false
+    other_name : (b c : Branch) → IsOther is_form b.0 c → bytes_eq c.0 b.0 ≡ false
     other_name b c o = by (bytes_eq c.0 b.0) refl
       where
         by : (x : Bool) → bytes_eq c.0 b.0 ≡ x → bytes_eq c.0 b.0 ≡ false
-        by true e = let w = sym o ∙ ap (λ (s : List ℕ). is_same_segment (seg form b.0) (seg form s)) (bytes_equal c.0 b.0 e) ∙ is_itself (seg form b.0) in cc
+        by true e = let w = sym o ∙ ap (λ (s : List ℕ). is_same_segment (segment is_form b.0) (segment is_form s)) (bytes_equal c.0 b.0 e) ∙ is_itself (segment is_form b.0) in cc
         by false e = e
 
-    pub each_found : (bs : List Branch) → SegsDiffer form bs → AreGood fm form bs → AllByRecursion (λ (b : Branch). found b.0 (entries_of mark f (keys form bs)) ≡ f (seg form b.0) ∷ []) bs
+    pub each_found : (bs : List Branch) → SegsDiffer is_form bs → AreGood fm is_form bs → AllByRecursion (λ (b : Branch). found b.0 (entries_of escaped f (keys is_form bs)) ≡ f (segment is_form b.0) ∷ []) bs
     each_found [] d g = tt
     each_found (b ∷ bs) d g =
-        let others = all_to (IsOther form b.0) (λ (c : Branch). bytes_eq c.0 b.0 ≡ false) (other_name b) bs d.0 in (
-          found_own mark f b.0 (seg form b.0) (keys form bs) (ap (λ (s : List ℕ). bytes_eq s b.0) g.0.0.1 ∙ bytes_same b.0) (none_found b.0 bs g.1 others),
-          all_both (λ (c : Branch). bytes_eq c.0 b.0 ≡ false) (λ (c : Branch). found c.0 (entries_of mark f (keys form bs)) ≡ f (seg form c.0) ∷ [])
-              (λ (c : Branch). found c.0 (entries_of mark f (keys form (b ∷ bs))) ≡ f (seg form c.0) ∷ [])
-              (λ c o e. found_other mark f c.0 (seg form b.0) (keys form bs) (ap (λ (s : List ℕ). bytes_eq s c.0) g.0.0.1 ∙ turned c.0 b.0 o) ∙ e) bs others (each_found bs d.1 g.1),
+        let others = all_to (IsOther is_form b.0) (λ (c : Branch). bytes_eq c.0 b.0 ≡ false) (other_name b) bs d.0 in (
+          found_own escaped f b.0 (segment is_form b.0) (keys is_form bs) (ap (λ (s : List ℕ). bytes_eq s b.0) g.0.0.1 ∙ bytes_same b.0) (none_found b.0 bs g.1 others),
+          all_both (λ (c : Branch). bytes_eq c.0 b.0 ≡ false) (λ (c : Branch). found c.0 (entries_of escaped f (keys is_form bs)) ≡ f (segment is_form c.0) ∷ [])
+              (λ (c : Branch). found c.0 (entries_of escaped f (keys is_form (b ∷ bs))) ≡ f (segment is_form c.0) ∷ [])
+              (λ c o e. found_other escaped f c.0 (segment is_form b.0) (keys is_form bs) (ap (λ (s : List ℕ). bytes_eq s c.0) g.0.0.1 ∙ turned c.0 b.0 o) ∙ e) bs others (each_found bs d.1 g.1),
         )
       where
         turned : (s t : List ℕ) → bytes_eq s t ≡ false → bytes_eq t s ≡ false
@@ -51,9 +51,9 @@ module _ (fm : ArrayFormat) (form : Bool) where
             by true e = let w = sym o ∙ ap (bytes_eq s) (bytes_equal t s e) ∙ bytes_same s in cc
             by false e = e
 
-    all_tested : (test : List ℕ → Bool) (bs : List Branch) → AreGood fm form bs → AllByRecursion (λ (b : Branch). test b.0 ≡ true) bs → all_keys test (entries_of mark f (keys form bs)) ≡ true
+    all_tested : (test : List ℕ → Bool) (bs : List Branch) → AreGood fm is_form bs → AllByRecursion (λ (b : Branch). test b.0 ≡ true) bs → all_keys test (entries_of escaped f (keys is_form bs)) ≡ true
     all_tested test [] g h = refl
-    all_tested test (b ∷ bs) g h = tested_put mark f test (seg form b.0) (keys form bs) (ap test g.0.0.1 ∙ h.0) (all_tested test bs g.1 h.1)
+    all_tested test (b ∷ bs) g h = tested_put escaped f test (segment is_form b.0) (keys is_form bs) (ap test g.0.0.1 ∙ h.0) (all_tested test bs g.1 h.1)
 
 pub or_true : (b c : Bool) → c ≡ true → (b || c) ≡ true
 or_true true c e = refl
@@ -81,11 +81,11 @@ fields_named fm (FitsFields.there {name = name} {fs = fs} {ms = ms} u f fits) =
 fields_named fm (FitsFields.left_out {name = name} {fs = fs} {ms = ms} fits) = others name fs (member_branches fm ms) (fields_named fm fits)
 
 -- keys of written fields are allowed
-pub all_allowed : (fm : ArrayFormat) (form : Bool) (unknown : UnknownKeys) (fs : Fields) (ms : Members) → FitsFields fs ms → (mark : Segment → Bool) (f : Segment → Tree) → AreGood fm form (member_branches fm ms)
-    → keys_are_allowed unknown fs (entries_of mark f (keys form (member_branches fm ms))) ≡ true
-all_allowed fm form unknown fs ms fits mark f g =
-    ap₂ (λ a b. a && (b || are_ignored unknown)) (all_tested fm form mark f is_utf8 (member_branches fm ms) g (fields_text fm fits))
-    (all_tested fm form mark f (λ key. is_field_name key fs) (member_branches fm ms) g (fields_named fm fits))
+pub all_allowed : (fm : ArrayFormat) (is_form : Bool) (unknown : UnknownKeys) (fs : Fields) (ms : Members) → FitsFields fs ms → (escaped : Segment → Bool) (f : Segment → Tree) → AreGood fm is_form (member_branches fm ms)
+    → keys_are_allowed unknown fs (entries_of escaped f (keys is_form (member_branches fm ms))) ≡ true
+all_allowed fm is_form unknown fs ms fits escaped f g =
+    ap₂ (λ a b. a && (b || are_ignored unknown)) (all_tested fm is_form escaped f is_utf8 (member_branches fm ms) g (fields_text fm fits))
+    (all_tested fm is_form escaped f (λ key. is_field_name key fs) (member_branches fm ms) g (fields_named fm fits))
 
 pub other_field : (n name : List ℕ) (fs : Fields) → is_field_name n fs ≡ false → is_field_name name fs ≡ true → bytes_eq n name ≡ false
 other_field n name fs e i = by (bytes_eq n name) refl

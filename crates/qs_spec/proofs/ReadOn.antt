@@ -1,10 +1,10 @@
 -- The reader goes on after what it read, whatever the number of turns that it is given.
 use Rattle.std.proofs.Common.{◌≡◌, ℕ, ◌≤◌, false, List, ◌∷◌, length, refl, sym, ap, ◌∙◌, subst, arith, Option, Some, None, option_map, length-append}
 use Rattle.qs_spec.specs.Token.{Token}
-use Rattle.qs_spec.specs.Token.Kind.{Amp}
+use Rattle.qs_spec.specs.Token.TokenKind.{Amp}
 use Rattle.qs_spec.specs.Grammar.{Pair, IsPair, is_amp}
 use Rattle.qs_spec.specs.internal.Parsing.{Rest, parsed_pair, parsed_pairs_at, parsed_pairs_within, parsed_pairs, and_pairs}
-use Rattle.qs_spec.proofs.ParsedIsRelated.{Finds, Found, Parses, pairs_parsed, pair_parsed}
+use Rattle.qs_spec.proofs.ParsedIsRelated.{FindsPairs, Found, Parses, pairs_parsed, pair_parsed}
 use Rattle.qs_spec.proofs.RelatedIsParsed.{pair_begun, pairs_found, found_pairs, are_pairs}
 
 same_option : (a b : Option (List Pair)) → ((ps : List Pair) → a ≡ Some ps → b ≡ Some ps) → ((ps : List Pair) → b ≡ Some ps → a ≡ Some ps) → a ≡ b
@@ -16,7 +16,7 @@ same_option (Some ps) b f g = sym (f ps refl)
 pub turns : (depth n : ℕ) (ts : List Token) → length ts ≤ n → parsed_pairs_within depth n ts ≡ parsed_pairs depth ts
 turns depth n ts l =
     same_option (parsed_pairs_within depth n ts) (parsed_pairs depth ts)
-    (λ ps e. found_pairs (let P : Option (List Pair) → Type 0 = Finds depth ts in subst P e (pairs_parsed depth n ts)))
+    (λ ps e. found_pairs (let P : Option (List Pair) → Type 0 = FindsPairs depth ts in subst P e (pairs_parsed depth n ts)))
     (λ ps e. pairs_found (are_pairs depth ts ps e) n l)
 
 pub after_ampersand : (depth : ℕ) (t : Token) (ts : List Token) → t.kind ≡ Amp → parsed_pairs depth (t ∷ ts) ≡ parsed_pairs depth ts

@@ -37,7 +37,7 @@ enum_related reject_duplicates vs (leaf Null) d h e = absurd (none-some d e)
 enum_related reject_duplicates vs (leaf (Text t m)) d h e = let r = unit_variant_related vs t d e in subst (Reads reject_duplicates (Shape.enumeration vs) (leaf (Text t m))) r.1 (Reads.unit_variant r.0)
 enum_related reject_duplicates vs (sequence xs) d h e = absurd (none-some d e)
 enum_related reject_duplicates vs (mapping no_entries) d h e = absurd (none-some d e)
-enum_related reject_duplicates vs (mapping (entry k mark t es)) d h e = let r = h (segment_text k) t d e in Reads.variant r.1 r.2
+enum_related reject_duplicates vs (mapping (entry k escaped t es)) d h e = let r = h (segment_text k) t d e in Reads.variant r.1 r.2
 enum_related reject_duplicates vs uninitialized d h e = absurd (none-some d e)
 
 -- what was made of some items that were read

@@ -84,7 +84,7 @@ mutual
 -- an input is read as one data
 one_answer : (config : Config) (shape : Shape) (d e : Data) (input : List ℕ) → is_distinct shape ≡ true → IsReadBack config shape d input → IsReadBack config shape e input → Same d e
 one_answer config shape d e input dist x y =
-    let tree = one_tree config.form config.max_depth input x.tree y.tree x.is_tree y.is_tree in
+    let tree = one_tree config.is_form config.max_depth input x.tree y.tree x.is_tree y.is_tree in
     let answer = one_data (are_rejected config.duplicates) shape y.tree x.answer y.answer dist (subst (λ t. ReadsBy config shape t x.answer) tree x.reads) y.reads in
     as_one (subst (Same d) answer x.same) y.same
 
@@ -92,7 +92,7 @@ pub same_entries : (config : Config) (shape : Shape) (d e : Data) → config.arr
     → IsPermutation (entries config d).entries (entries config e).entries → Same d e
 same_entries config shape d e f dist p q w =
     let es = (entries config e).entries in
-    one_answer config shape d e (written config.form false es) dist (read_back config shape d es f dist p w) (read_back config shape e es f dist q (IsPermutation-refl es))
+    one_answer config shape d e (written config.is_form false es) dist (read_back config shape d es f dist p w) (read_back config shape e es f dist q (IsPermutation-refl es))
 
 keeps_itself : (es : List Entry) → KeepsPaths es es
 keeps_itself [] = refl
@@ -102,4 +102,4 @@ pub same_lists : (config : Config) (shape : Shape) (d e : Data) → is_distinct 
     → is_listed config.array_format false d ≡ true → is_listed config.array_format false e ≡ true → KeepsPaths (entries config d).entries (entries config e).entries → Same d e
 same_lists config shape d e dist p q x y w =
     let es = (entries config e).entries in
-    one_answer config shape d e (written config.form false es) dist (lists_back config shape d es dist p x w) (lists_back config shape e es dist q y (keeps_itself es))
+    one_answer config shape d e (written config.is_form false es) dist (lists_back config shape d es dist p x w) (lists_back config shape e es dist q y (keeps_itself es))

@@ -38,12 +38,12 @@ character_some c = by (nat_lt c 128) (nat_lt c 2048) (nat_lt c 65536)
     by false false true = refl
     by false false false = refl
 
-module _ (form reject_duplicates : Bool) where
-  as_text : (s : Shape) (d : Data) (t : List ℕ) → has_bytes t ≡ true → AreBytes t → ((m : Bool) → Reads reject_duplicates s (Tree.leaf (Text t m)) d) → Reads reject_duplicates s (Tree.leaf (value_leaf (encoded form t))) d
-  as_text s d t e h r = let l = text_leaf form t e h in subst (λ (x : Leaf). Reads reject_duplicates s (Tree.leaf x) d) (sym l.1) (r l.0)
+module _ (is_form reject_duplicates : Bool) where
+  as_text : (s : Shape) (d : Data) (t : List ℕ) → has_bytes t ≡ true → AreBytes t → ((m : Bool) → Reads reject_duplicates s (Tree.leaf (Text t m)) d) → Reads reject_duplicates s (Tree.leaf (value_leaf (encoded is_form t))) d
+  as_text s d t e h r = let l = text_leaf is_form t e h in subst (λ (x : Leaf). Reads reject_duplicates s (Tree.leaf x) d) (sym l.1) (r l.0)
 
   -- a scalar in a list
-  pub leaf_reads : {s : Shape} {d : Data} → Fits s d → is_plain form d ≡ true → has_text (key_text d) ≡ true → Reads reject_duplicates s (Tree.leaf (entry_leaf form (key_text d))) d × Same d d
+  pub leaf_reads : {s : Shape} {d : Data} → Fits s d → is_plain is_form d ≡ true → has_text (key_text d) ≡ true → Reads reject_duplicates s (Tree.leaf (entry_leaf is_form (key_text d))) d × Same d d
   leaf_reads Fits.unit p e = cc
   leaf_reads (Fits.boolean {b}) p e = (as_text Shape.boolean (Data.boolean b) (boolean_text b) (some b) (boolean_bytes b) (λ m. Reads.boolean refl (boolean_back b)), Same.boolean)
     where
@@ -70,19 +70,19 @@ module _ (form reject_duplicates : Bool) where
   leaf_reads (Fits.tuple_variant v u f) p e = cc
   leaf_reads (Fits.struct_variant v u f) p e = cc
 
-  pub leaf_each : {s : Shape} {ds : Values} → FitsEach s ds → are_plain form ds ≡ true → are_scalars ds ≡ true → AreBack reject_duplicates s (leaf_trees (list_leaves form ds)) ds
+  pub leaf_each : {s : Shape} {ds : Values} → FitsEach s ds → are_plain is_form ds ≡ true → are_scalars ds ≡ true → AreBack reject_duplicates s (leaf_trees (list_leaves is_form ds)) ds
   leaf_each FitsEach.no_items p e = record { answers = no_values; reads = ReadsEach.each_end; same = SameValues.values_end }
   leaf_each (FitsEach.item {d = d} {ds = ds} f fs) p e =
-      let h = and_both (is_plain form d) (are_plain form ds) p in
+      let h = and_both (is_plain is_form d) (are_plain is_form ds) p in
       let k = and_both (has_text (key_text d)) (are_scalars ds) e in
       let g = leaf_reads f h.0 k.0 in
       let r = leaf_each fs h.1 k.1 in
       record { answers = one_value d r.answers; reads = ReadsEach.each_item g.0 r.reads; same = SameValues.values_more g.1 r.same }
 
-  pub leaf_tuple : {ss : Shapes} {ds : Values} → FitsTuple ss ds → are_plain form ds ≡ true → are_scalars ds ≡ true → IsTupleBack reject_duplicates ss (leaf_trees (list_leaves form ds)) ds
+  pub leaf_tuple : {ss : Shapes} {ds : Values} → FitsTuple ss ds → are_plain is_form ds ≡ true → are_scalars ds ≡ true → IsTupleBack reject_duplicates ss (leaf_trees (list_leaves is_form ds)) ds
   leaf_tuple FitsTuple.no_parts p e = record { answers = no_values; reads = ReadsFirst.first_end; same = SameValues.values_end }
   leaf_tuple (FitsTuple.part {d = d} {ds = ds} f fs) p e =
-      let h = and_both (is_plain form d) (are_plain form ds) p in
+      let h = and_both (is_plain is_form d) (are_plain is_form ds) p in
       let k = and_both (has_text (key_text d)) (are_scalars ds) e in
       let g = leaf_reads f h.0 k.0 in
       let r = leaf_tuple fs h.1 k.1 in

@@ -3,13 +3,13 @@ use Rattle.std.proofs.Common.{◌≡◌, ◌↔◌, ℕ, max, ◌≤◌, Bool, t
 use Rattle.std.specs.List.{list_any}
 use Rattle.std.proofs.lemmas.Option.{none-some, same_Some}
 use Rattle.std.proofs.lemmas.List.Folds.{list_any-append}
-use Rattle.qs_spec.specs.Segment.{Segment, MarkedSegment}
+use Rattle.qs_spec.specs.Segment.{Segment, ParsedSegment}
 use Rattle.qs_spec.specs.Token.{tokens}
 use Rattle.qs_spec.specs.Grammar.{Pair, ArePairs}
 use Rattle.qs_spec.specs.History.{Event, event, events, under, is_below, is_push, permitted}
 use Rattle.qs_spec.specs.Tree.{node_within, node, longest, Tree, IsTree}
 use Rattle.qs_spec.specs.Segment.{is_same_segment}
-use Rattle.qs_spec.specs.History.Event.{direct, push, below}
+use Rattle.qs_spec.specs.History.Event.{assign, push, below}
 use Rattle.qs_spec.specs.Tree.Tree.{uninitialized}
 use Rattle.qs_spec.specs.internal.InPlace.{add, add_all}
 use Rattle.qs_spec.proofs.RelatedIsParsed.{one_list}
@@ -35,18 +35,18 @@ permitted_front : (h g : List Event) → permitted (h ++ g) ≡ true → permitt
 permitted_front [] g e = refl
 permitted_front (below ∷ h) g e = weaker_not (list_any is_push h) (list_any is_push g) (sym (ap not (list_any-append is_push h g)) ∙ e)
 permitted_front (push l ∷ h) g e = weaker (list_any is_below h) (list_any is_below g) (sym (ap (λ x. (not x && true) || false) (list_any-append is_below h g)) ∙ e)
-permitted_front (direct l ∷ []) g e = refl
-permitted_front (direct l ∷ direct k ∷ h) g e = weaker (list_any is_below h) (list_any is_below g) (sym (ap (λ x. (not x && true) || false) (list_any-append is_below h g)) ∙ e)
-permitted_front (direct l ∷ push k ∷ h) g e = absurd (never _ e)
-permitted_front (direct l ∷ below ∷ h) g e = cc
+permitted_front (assign l ∷ []) g e = refl
+permitted_front (assign l ∷ assign k ∷ h) g e = weaker (list_any is_below h) (list_any is_below g) (sym (ap (λ x. (not x && true) || false) (list_any-append is_below h g)) ∙ e)
+permitted_front (assign l ∷ push k ∷ h) g e = absurd (never _ e)
+permitted_front (assign l ∷ below ∷ h) g e = cc
 
 pub under-append : (k : Segment) (ps qs : List Pair) → under k (ps ++ qs) ≡ under k ps ++ under k qs
 under-append k [] qs = refl
 under-append k (p ∷ ps) qs = by p.path (under-append k ps qs)
   where
-    by : (path : List MarkedSegment) → under k (ps ++ qs) ≡ under k ps ++ under k qs → under k (record p { path = path } ∷ (ps ++ qs)) ≡ under k (record p { path = path } ∷ ps) ++ under k qs
+    by : (path : List ParsedSegment) → under k (ps ++ qs) ≡ under k ps ++ under k qs → under k (record p { path = path } ∷ (ps ++ qs)) ≡ under k (record p { path = path } ∷ ps) ++ under k qs
     by [] e = e
-    by (s ∷ path) e = each (is_same_segment k s.seg)
+    by (s ∷ path) e = each (is_same_segment k s.segment)
       where
         each : (b : Bool) → cond b (record p { path = path } ∷ under k (ps ++ qs)) (under k (ps ++ qs)) ≡ cond b (record p { path = path } ∷ under k ps) (under k ps) ++ under k qs
         each true = ap (λ l. record p { path = path } ∷ l) e
@@ -90,18 +90,18 @@ nothing_permitted : Permitted []
 nothing_permitted [] = refl
 nothing_permitted (k ∷ path) = nothing_permitted path
 
-pub in_place : (form : Bool) (depth b : ℕ) (bytes : List ℕ) (ps : List Pair) (t : Tree) → ArePairs depth (tokens form (b ∷ bytes)) ps → ((add_all ps uninitialized ≡ Some t) ↔ IsTree form depth (b ∷ bytes) t)
-in_place form depth b bytes ps t g = (there (add_all ps uninitialized) result, back (add_all ps uninitialized) result)
+pub in_place : (is_form : Bool) (depth b : ℕ) (bytes : List ℕ) (ps : List Pair) (t : Tree) → ArePairs depth (tokens is_form (b ∷ bytes)) ps → ((add_all ps uninitialized ≡ Some t) ↔ IsTree is_form depth (b ∷ bytes) t)
+in_place is_form depth b bytes ps t g = (there (add_all ps uninitialized) result, back (add_all ps uninitialized) result)
   where
     result : AllGo (longest ps) ps (add_all ps uninitialized)
-    result = subst (λ u. AllGo (longest ps) ps (add_all ps u)) (node_nothing (longest ps)) (all_go (longest ps) ps [] (omega arith) (le_refl (longest ps)) tt (none_empty form depth (b ∷ bytes) ps g) nothing_permitted)
+    result = subst (λ u. AllGo (longest ps) ps (add_all ps u)) (node_nothing (longest ps)) (all_go (longest ps) ps [] (omega arith) (le_refl (longest ps)) tt (none_empty is_form depth (b ∷ bytes) ps g) nothing_permitted)
 
-    there : (o : Option Tree) → AllGo (longest ps) ps o → o ≡ Some t → IsTree form depth (b ∷ bytes) t
+    there : (o : Option Tree) → AllGo (longest ps) ps o → o ≡ Some t → IsTree is_form depth (b ∷ bytes) t
     there None h e = absurd (none-some t e)
     there (Some u) h e = (ps, record { grammar = g; histories = h.0 }, sym (same_Some u t e) ∙ h.1)
 
-    back : (o : Option Tree) → AllGo (longest ps) ps o → IsTree form depth (b ∷ bytes) t → o ≡ Some t
-    back o h i = here o h (subst (λ (qs : List Pair). Permitted qs × (t ≡ node qs)) (one_list depth (tokens form (b ∷ bytes)) i.0 ps i.1.grammar g) (i.1.histories, i.2))
+    back : (o : Option Tree) → AllGo (longest ps) ps o → IsTree is_form depth (b ∷ bytes) t → o ≡ Some t
+    back o h i = here o h (subst (λ (qs : List Pair). Permitted qs × (t ≡ node qs)) (one_list depth (tokens is_form (b ∷ bytes)) i.0 ps i.1.grammar g) (i.1.histories, i.2))
       where
         here : (o : Option Tree) → AllGo (longest ps) ps o → Permitted ps × (t ≡ node ps) → o ≡ Some t
         here None h i = absurd (h i.0)

@@ -2,7 +2,7 @@
 use Rattle.std.proofs.Common.{◌≡◌, ℕ, zero, suc, max, ◌≤◌, Bool, true, false, cond, ◌&&◌, ◌||◌, List, [], ◌∷◌, length, refl, sym, ap, ap₂, ◌∙◌, arith, Option, Some, None, Ordering, Less, Equal, Greater, is_eq, le_refl, if◌then◌else◌}
 use Rattle.std.specs.List.{list_all, list_any}
 use Rattle.std.proofs.lemmas.Option.{none-some, same_Some}
-use Rattle.qs_spec.specs.Segment.{Segment, MarkedSegment}
+use Rattle.qs_spec.specs.Segment.{Segment, ParsedSegment}
 use Rattle.qs_spec.specs.Token.{tokens}
 use Rattle.qs_spec.specs.Leaf.Leaf.{NoValue}
 use Rattle.qs_spec.specs.Grammar.{Pair}
@@ -32,8 +32,8 @@ tree_of_pairs None = None
 tree_of_pairs (Some ps) = if all_permitted (longest ps) ps then Some (node ps) else None
 
 abbrev pub tree_of : Bool → ℕ → List ℕ → Option Tree
-tree_of form depth [] = Some (Tree.leaf NoValue)
-tree_of form depth (b ∷ bytes) = tree_of_pairs (parsed_pairs depth (tokens form (b ∷ bytes)))
+tree_of is_form depth [] = Some (Tree.leaf NoValue)
+tree_of is_form depth (b ∷ bytes) = tree_of_pairs (parsed_pairs depth (tokens is_form (b ∷ bytes)))
 
 all_of : {A : Type 0} (f : A → Bool) (ks : List A) → ((k : A) → f k ≡ true) → list_all f ks ≡ true
 all_of f [] h = refl
@@ -71,10 +71,10 @@ pub none_under : (k : Segment) (ps : List Pair) → list_any (is_same_segment k)
 none_under k [] e = refl
 none_under k (p ∷ ps) e = by p.path e (none_under k ps)
   where
-    by : (path : List MarkedSegment) → list_any (is_same_segment k) (put_head path (heads ps)) ≡ false → (list_any (is_same_segment k) (heads ps) ≡ false → under k ps ≡ []) → under k (record p { path = path } ∷ ps) ≡ []
+    by : (path : List ParsedSegment) → list_any (is_same_segment k) (put_head path (heads ps)) ≡ false → (list_any (is_same_segment k) (heads ps) ≡ false → under k ps ≡ []) → under k (record p { path = path } ∷ ps) ≡ []
     by [] e h = h e
     by (s ∷ path) e h =
-        let parts = or_both (is_same_segment k s.seg) _ (sym (any_put k s.seg (heads ps)) ∙ e) in
+        let parts = or_both (is_same_segment k s.segment) _ (sym (any_put k s.segment (heads ps)) ∙ e) in
         ap (λ b. cond b (record p { path = path } ∷ under k ps) (under k ps)) parts.0 ∙ h parts.1
 
 -- below a segment paths are shorter
@@ -82,9 +82,9 @@ pub longest_under : (k : Segment) (n : ℕ) (ps : List Pair) → longest ps ≤ 
 longest_under k n [] l = omega arith
 longest_under k n (p ∷ ps) l = by p.path l (longest_under k n ps)
   where
-    by : (path : List MarkedSegment) → max (length path) (longest ps) ≤ suc n → (longest ps ≤ suc n → longest (under k ps) ≤ n) → longest (under k (record p { path = path } ∷ ps)) ≤ n
+    by : (path : List ParsedSegment) → max (length path) (longest ps) ≤ suc n → (longest ps ≤ suc n → longest (under k ps) ≤ n) → longest (under k (record p { path = path } ∷ ps)) ≤ n
     by [] l h = h (omega arith)
-    by (s ∷ path) l h = each (is_same_segment k s.seg)
+    by (s ∷ path) l h = each (is_same_segment k s.segment)
       where
         each : (b : Bool) → longest (cond b (record p { path = path } ∷ under k ps) (under k ps)) ≤ n
         each true = let m : longest (under k ps) ≤ n = h (omega arith) in omega arith
@@ -95,7 +95,7 @@ pub none_longer : (k : Segment) (ps : List Pair) → longest ps ≤ 0 → under 
 none_longer k [] l = refl
 none_longer k (p ∷ ps) l = by p.path l (none_longer k ps)
   where
-    by : (path : List MarkedSegment) → max (length path) (longest ps) ≤ 0 → (longest ps ≤ 0 → under k ps ≡ []) → under k (record p { path = path } ∷ ps) ≡ []
+    by : (path : List ParsedSegment) → max (length path) (longest ps) ≤ 0 → (longest ps ≤ 0 → under k ps ≡ []) → under k (record p { path = path } ∷ ps) ≡ []
     by [] l h = h (omega arith)
     by (s ∷ path) l h = absurd (omega arith)
 
@@ -122,28 +122,28 @@ if_some true x y e = (refl, same_Some x y e)
 if_some false x y e = absurd (none-some y e)
 
 -- the tree that the function gives is the tree
-pub is_tree : (form : Bool) (depth : ℕ) (bytes : List ℕ) (t : Tree) → tree_of form depth bytes ≡ Some t → IsTree form depth bytes t
-is_tree form depth [] t e = sym (same_Some (Tree.leaf NoValue) t e)
-is_tree form depth (b ∷ bytes) t e = by (parsed_pairs depth (tokens form (b ∷ bytes))) refl e
+pub is_tree : (is_form : Bool) (depth : ℕ) (bytes : List ℕ) (t : Tree) → tree_of is_form depth bytes ≡ Some t → IsTree is_form depth bytes t
+is_tree is_form depth [] t e = sym (same_Some (Tree.leaf NoValue) t e)
+is_tree is_form depth (b ∷ bytes) t e = by (parsed_pairs depth (tokens is_form (b ∷ bytes))) refl e
   where
-    by : (o : Option (List Pair)) → parsed_pairs depth (tokens form (b ∷ bytes)) ≡ o → tree_of_pairs o ≡ Some t → IsTree form depth (b ∷ bytes) t
+    by : (o : Option (List Pair)) → parsed_pairs depth (tokens is_form (b ∷ bytes)) ≡ o → tree_of_pairs o ≡ Some t → IsTree is_form depth (b ∷ bytes) t
     by None d e = absurd (none-some t e)
     by (Some ps) d e =
         let parts = if_some (all_permitted (longest ps) ps) (node ps) t e in
-        (ps, record { grammar = are_pairs depth (tokens form (b ∷ bytes)) ps d; histories = each_of (longest ps) ps (le_refl (longest ps)) parts.0 }, sym parts.1)
+        (ps, record { grammar = are_pairs depth (tokens is_form (b ∷ bytes)) ps d; histories = each_of (longest ps) ps (le_refl (longest ps)) parts.0 }, sym parts.1)
 
 -- it gives each tree
-pub tree_found : (form : Bool) (depth : ℕ) (bytes : List ℕ) (t : Tree) → IsTree form depth bytes t → tree_of form depth bytes ≡ Some t
-tree_found form depth [] t h = ap Some (sym h)
-tree_found form depth (b ∷ bytes) t h =
+pub tree_found : (is_form : Bool) (depth : ℕ) (bytes : List ℕ) (t : Tree) → IsTree is_form depth bytes t → tree_of is_form depth bytes ≡ Some t
+tree_found is_form depth [] t h = ap Some (sym h)
+tree_found is_form depth (b ∷ bytes) t h =
     ap tree_of_pairs (found_pairs h.1.grammar)
     ∙ ap (λ x. cond x (Some (node h.0)) None) (of_each (longest h.0) h.0 h.1.histories)
     ∙ ap Some (sym h.2)
 
 -- an input has at most one tree
-pub one_tree : (form : Bool) (depth : ℕ) (bytes : List ℕ) (t u : Tree) → IsTree form depth bytes t → IsTree form depth bytes u → t ≡ u
-one_tree form depth bytes t u h i = same_Some t u (sym (tree_found form depth bytes t h) ∙ tree_found form depth bytes u i)
+pub one_tree : (is_form : Bool) (depth : ℕ) (bytes : List ℕ) (t u : Tree) → IsTree is_form depth bytes t → IsTree is_form depth bytes u → t ≡ u
+one_tree is_form depth bytes t u h i = same_Some t u (sym (tree_found is_form depth bytes t h) ∙ tree_found is_form depth bytes u i)
 
 -- where the function gives none, there is none
-pub no_tree : (form : Bool) (depth : ℕ) (bytes : List ℕ) → tree_of form depth bytes ≡ None → (t : Tree) → IsTree form depth bytes t → ⊥
-no_tree form depth bytes e t h = none-some t (sym e ∙ tree_found form depth bytes t h)
+pub no_tree : (is_form : Bool) (depth : ℕ) (bytes : List ℕ) → tree_of is_form depth bytes ≡ None → (t : Tree) → IsTree is_form depth bytes t → ⊥
+no_tree is_form depth bytes e t h = none-some t (sym e ∙ tree_found is_form depth bytes t h)

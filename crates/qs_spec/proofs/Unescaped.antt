@@ -13,7 +13,7 @@ is_back b (x ∷ []) = not (x == 37) && unplus x == b
 is_back b (x ∷ y ∷ z ∷ []) = x == 37 && is_digit y 16 && is_digit z 16 && (16 * digit_value y + digit_value z) == b
 is_back b _ = false
 
-backs : (form : Bool) (b : ℕ) → b < 256 → is_back b (encoded_byte form b) ≡ true
+backs : (is_form : Bool) (b : ℕ) → b < 256 → is_back b (encoded_byte is_form b) ≡ true
 backs true b l = agree_below_at (λ b. is_back b (encoded_byte true b)) (λ b. true) 256 b refl l
 backs false b l = agree_below_at (λ b. is_back b (encoded_byte false b)) (λ b. true) 256 b refl l
 
@@ -42,6 +42,6 @@ decoded_one b (x ∷ y ∷ z ∷ []) rest e =
     decoded_escape x y z rest f.0 f.1 g.1 ∙ ap (λ c. c ∷ decoded rest) (eq_of (16 * digit_value y + digit_value z) b h.1)
 decoded_one b (x ∷ y ∷ z ∷ w ∷ xs) rest e = cc
 
-pub decoded-encoded : (form : Bool) (s : List ℕ) → AllByRecursion (λ b. b < 256) s → decoded (encoded form s) ≡ s
-decoded-encoded form [] l = refl
-decoded-encoded form (b ∷ s) l = decoded_one b (encoded_byte form b) (encoded form s) (backs form b l.0) ∙ ap (λ r. b ∷ r) (decoded-encoded form s l.1)
+pub decoded-encoded : (is_form : Bool) (s : List ℕ) → AllByRecursion (λ b. b < 256) s → decoded (encoded is_form s) ≡ s
+decoded-encoded is_form [] l = refl
+decoded-encoded is_form (b ∷ s) l = decoded_one b (encoded_byte is_form b) (encoded is_form s) (backs is_form b l.0) ∙ ap (λ r. b ∷ r) (decoded-encoded is_form s l.1)

@@ -1,11 +1,11 @@
 -- The entries of pairs, updated in place at one key.
 use Rattle.std.proofs.Common.{◌≡◌, ℕ, zero, suc, Bool, true, false, cond, ◌||◌, List, [], ◌∷◌, ◌++◌, refl, sym, ap, ap₂, ◌∙◌, subst, Option, Some, None, option_map, Ordering, Less, Equal, Greater, is_eq, append-nil}
 use Rattle.std.specs.List.{list_any, AllByRecursion}
-use Rattle.qs_spec.specs.Segment.{Segment, MarkedSegment}
+use Rattle.qs_spec.specs.Segment.{Segment, ParsedSegment}
 use Rattle.qs_spec.specs.Leaf.{Leaf}
 use Rattle.qs_spec.specs.Grammar.{Pair}
 use Rattle.qs_spec.specs.History.{under}
-use Rattle.qs_spec.specs.Tree.{heads, put, head_mark, entries_of, node_within, Tree, Entries}
+use Rattle.qs_spec.specs.Tree.{heads, put, head_escaped, entries_of, node_within, Tree, Entries}
 use Rattle.qs_spec.specs.Segment.{compare_segments, is_same_segment}
 use Rattle.qs_spec.specs.Tree.Tree.{uninitialized}
 use Rattle.qs_spec.specs.Tree.Entries.{entry, no_entries}
@@ -13,7 +13,7 @@ use Rattle.qs_spec.specs.internal.InPlace.{update_by, update}
 use Rattle.qs_spec.proofs.Order.{exact_segment, put_lt, put_eq, put_gt, not_above, not_below, is_itself}
 use Rattle.qs_spec.proofs.TreeOf.{none_under}
 use Rattle.qs_spec.proofs.Leaves.{Ascends, ascends_heads, all_above}
-use Rattle.qs_spec.proofs.OneMore.{pair, under_push, heads_push, mark_push, mark_there, mark_new}
+use Rattle.qs_spec.proofs.OneMore.{pair, under_push, heads_push, escaped_push, escaped_there, escaped_new}
 
 -- entries that agree at the keys
 entries_agree : (x : Segment) (m n : Segment → Bool) (f g : Segment → Tree) → ((k : Segment) → is_same_segment k x ≡ false → (n k ≡ m k) × (g k ≡ f k)) → (ks : List Segment) → AllByRecursion (λ k. compare_segments x k ≡ Less) ks → entries_of m f ks ≡ entries_of n g ks
@@ -34,62 +34,62 @@ not_among : (x : Segment) (ks : List Segment) → AllByRecursion (λ k. compare_
 not_among x [] h = refl
 not_among x (k ∷ ks) h = ap₂ (λ a b. a || b) (ap is_eq h.0) (not_among x ks h.1)
 
-module _ (s : MarkedSegment) (g : Tree → Option Tree) (m n : Segment → Bool) (f h : Segment → Tree) (o : Option Tree)
-    (others : (k : Segment) → is_same_segment k s.seg ≡ false → (n k ≡ m k) × (h k ≡ f k)) (made : g (f s.seg) ≡ o) (same : (t : Tree) → o ≡ Some t → t ≡ h s.seg) where
-  update_entries : (ks : List Segment) → Ascends ks → (list_any (is_same_segment s.seg) ks ≡ true → n s.seg ≡ m s.seg) → (list_any (is_same_segment s.seg) ks ≡ false → (n s.seg ≡ s.mark) × (f s.seg ≡ uninitialized))
-      → update s g (entries_of m f ks) ≡ option_map (λ t. entries_of n h (put s.seg ks)) o
+module _ (s : ParsedSegment) (g : Tree → Option Tree) (m n : Segment → Bool) (f h : Segment → Tree) (o : Option Tree)
+    (others : (k : Segment) → is_same_segment k s.segment ≡ false → (n k ≡ m k) × (h k ≡ f k)) (made : g (f s.segment) ≡ o) (same : (t : Tree) → o ≡ Some t → t ≡ h s.segment) where
+  update_entries : (ks : List Segment) → Ascends ks → (list_any (is_same_segment s.segment) ks ≡ true → n s.segment ≡ m s.segment) → (list_any (is_same_segment s.segment) ks ≡ false → (n s.segment ≡ s.escaped) × (f s.segment ≡ uninitialized))
+      → update s g (entries_of m f ks) ≡ option_map (λ t. entries_of n h (put s.segment ks)) o
   update_entries [] a kept new =
       let w = new refl in
-      ap (option_map (λ u. entry s.seg s.mark u no_entries)) (ap g (sym w.1) ∙ made)
-      ∙ to_constant _ _ o (λ t e. ap₂ (λ (b : Bool) (u : Tree). entry s.seg b u no_entries) (sym w.0) (same t e))
-  update_entries (k ∷ ks) a kept new = by (update_entries ks a.1) (compare_segments s.seg k) refl
+      ap (option_map (λ u. entry s.segment s.escaped u no_entries)) (ap g (sym w.1) ∙ made)
+      ∙ to_constant _ _ o (λ t e. ap₂ (λ (b : Bool) (u : Tree). entry s.segment b u no_entries) (sym w.0) (same t e))
+  update_entries (k ∷ ks) a kept new = by (update_entries ks a.1) (compare_segments s.segment k) refl
     where
-      by : ((list_any (is_same_segment s.seg) ks ≡ true → n s.seg ≡ m s.seg) → (list_any (is_same_segment s.seg) ks ≡ false → (n s.seg ≡ s.mark) × (f s.seg ≡ uninitialized)) → update s g (entries_of m f ks) ≡ option_map (λ t. entries_of n h (put s.seg ks)) o)
-          → (d : Ordering) → compare_segments s.seg k ≡ d → update s g (entries_of m f (k ∷ ks)) ≡ option_map (λ t. entries_of n h (put s.seg (k ∷ ks))) o
+      by : ((list_any (is_same_segment s.segment) ks ≡ true → n s.segment ≡ m s.segment) → (list_any (is_same_segment s.segment) ks ≡ false → (n s.segment ≡ s.escaped) × (f s.segment ≡ uninitialized)) → update s g (entries_of m f ks) ≡ option_map (λ t. entries_of n h (put s.segment ks)) o)
+          → (d : Ordering) → compare_segments s.segment k ≡ d → update s g (entries_of m f (k ∷ ks)) ≡ option_map (λ t. entries_of n h (put s.segment (k ∷ ks))) o
       by more Less e =
-          let above : AllByRecursion (λ z. compare_segments s.seg z ≡ Less) (k ∷ ks) = (e, all_above s.seg k ks e a.0) in
-          let w = new (not_among s.seg (k ∷ ks) above) in
+          let above : AllByRecursion (λ z. compare_segments s.segment z ≡ Less) (k ∷ ks) = (e, all_above s.segment k ks e a.0) in
+          let w = new (not_among s.segment (k ∷ ks) above) in
           ap (λ d. update_by d s g k (m k) (f k) (entries_of m f ks) (update s g (entries_of m f ks))) e
-          ∙ ap (option_map (λ u. entry s.seg s.mark u (entries_of m f (k ∷ ks)))) (ap g (sym w.1) ∙ made)
-          ∙ to_constant _ _ o (λ t d. ap₂ (λ (b : Bool) (u : Tree). entry s.seg b u (entries_of m f (k ∷ ks))) (sym w.0) (same t d)
-          ∙ ap (entry s.seg (n s.seg) (h s.seg)) (entries_agree s.seg m n f h others (k ∷ ks) above)
-          ∙ ap (entries_of n h) (sym (put_lt s.seg k ks e)))
+          ∙ ap (option_map (λ u. entry s.segment s.escaped u (entries_of m f (k ∷ ks)))) (ap g (sym w.1) ∙ made)
+          ∙ to_constant _ _ o (λ t d. ap₂ (λ (b : Bool) (u : Tree). entry s.segment b u (entries_of m f (k ∷ ks))) (sym w.0) (same t d)
+          ∙ ap (entry s.segment (n s.segment) (h s.segment)) (entries_agree s.segment m n f h others (k ∷ ks) above)
+          ∙ ap (entries_of n h) (sym (put_lt s.segment k ks e)))
       by more Equal e =
-          let one : s.seg ≡ k = exact_segment s.seg k e in
-          let above : AllByRecursion (λ z. compare_segments s.seg z ≡ Less) ks = subst (λ w. AllByRecursion (λ z. compare_segments w z ≡ Less) ks) (sym one) a.0 in
-          let keep : n s.seg ≡ m s.seg = kept (ap (λ b. b || list_any (is_same_segment s.seg) ks) (ap is_eq e)) in
+          let one : s.segment ≡ k = exact_segment s.segment k e in
+          let above : AllByRecursion (λ z. compare_segments s.segment z ≡ Less) ks = subst (λ w. AllByRecursion (λ z. compare_segments w z ≡ Less) ks) (sym one) a.0 in
+          let keep : n s.segment ≡ m s.segment = kept (ap (λ b. b || list_any (is_same_segment s.segment) ks) (ap is_eq e)) in
           ap (λ d. update_by d s g k (m k) (f k) (entries_of m f ks) (update s g (entries_of m f ks))) e
           ∙ ap (option_map (λ u. entry k (m k) u (entries_of m f ks))) (ap (λ z. g (f z)) (sym one) ∙ made)
           ∙ to_constant _ _ o (λ t d. ap₂ (λ (b : Bool) (u : Tree). entry k b u (entries_of m f ks)) (sym (ap m one) ∙ sym keep ∙ ap n one) (same t d ∙ ap h one)
-          ∙ ap (entry k (n k) (h k)) (entries_agree s.seg m n f h others ks above)
-          ∙ ap (entries_of n h) (sym (put_eq s.seg k ks e)))
+          ∙ ap (entry k (n k) (h k)) (entries_agree s.segment m n f h others ks above)
+          ∙ ap (entries_of n h) (sym (put_eq s.segment k ks e)))
       by more Greater e =
-          let other = others k (not_below s.seg k e) in
-          let rest : list_any (is_same_segment s.seg) (k ∷ ks) ≡ list_any (is_same_segment s.seg) ks = ap (λ b. b || list_any (is_same_segment s.seg) ks) (ap is_eq e) in
+          let other = others k (not_below s.segment k e) in
+          let rest : list_any (is_same_segment s.segment) (k ∷ ks) ≡ list_any (is_same_segment s.segment) ks = ap (λ b. b || list_any (is_same_segment s.segment) ks) (ap is_eq e) in
           ap (λ d. update_by d s g k (m k) (f k) (entries_of m f ks) (update s g (entries_of m f ks))) e
           ∙ ap (option_map (entry k (m k) (f k))) (more (λ d. kept (rest ∙ d)) (λ d. new (rest ∙ d)))
-          ∙ twice_mapped (entry k (m k) (f k)) (entries_of n h (put s.seg ks)) o
-          ∙ ap (λ (x : Entries). option_map (λ t. x) o) (ap₂ (λ (b : Bool) (u : Tree). entry k b u (entries_of n h (put s.seg ks))) (sym other.0) (sym other.1) ∙ ap (entries_of n h) (sym (put_gt s.seg k ks e)))
+          ∙ twice_mapped (entry k (m k) (f k)) (entries_of n h (put s.segment ks)) o
+          ∙ ap (λ (x : Entries). option_map (λ t. x) o) (ap₂ (λ (b : Bool) (u : Tree). entry k b u (entries_of n h (put s.segment ks))) (sym other.0) (sym other.1) ∙ ap (entries_of n h) (sym (put_gt s.segment k ks e)))
 
 abbrev pub entries_within : ℕ → List Pair → Entries
-entries_within m qs = entries_of (λ k. head_mark k qs) (λ k. node_within m (under k qs)) (heads qs)
+entries_within m qs = entries_of (λ k. head_escaped k qs) (λ k. node_within m (under k qs)) (heads qs)
 
 pub node_nothing : (n : ℕ) → node_within n [] ≡ uninitialized
 node_nothing zero = refl
 node_nothing (suc n) = refl
 
-pub under_same : (s : MarkedSegment) (ps : List Pair) (path : List MarkedSegment) (b : Bool) (l : Leaf) → under s.seg (ps ++ pair (s ∷ path) b l ∷ []) ≡ under s.seg ps ++ pair path b l ∷ []
-under_same s ps path b l = under_push s.seg ps (pair (s ∷ path) b l) ∙ ap (λ x. under s.seg ps ++ cond x (pair path b l ∷ []) []) (is_itself s.seg)
+pub under_same : (s : ParsedSegment) (ps : List Pair) (path : List ParsedSegment) (b : Bool) (l : Leaf) → under s.segment (ps ++ pair (s ∷ path) b l ∷ []) ≡ under s.segment ps ++ pair path b l ∷ []
+under_same s ps path b l = under_push s.segment ps (pair (s ∷ path) b l) ∙ ap (λ x. under s.segment ps ++ cond x (pair path b l ∷ []) []) (is_itself s.segment)
 
-pub under_other : (k : Segment) (s : MarkedSegment) (ps : List Pair) (path : List MarkedSegment) (b : Bool) (l : Leaf) → is_same_segment k s.seg ≡ false → under k (ps ++ pair (s ∷ path) b l ∷ []) ≡ under k ps
+pub under_other : (k : Segment) (s : ParsedSegment) (ps : List Pair) (path : List ParsedSegment) (b : Bool) (l : Leaf) → is_same_segment k s.segment ≡ false → under k (ps ++ pair (s ∷ path) b l ∷ []) ≡ under k ps
 under_other k s ps path b l e = under_push k ps (pair (s ∷ path) b l) ∙ ap (λ x. under k ps ++ cond x (pair path b l ∷ []) []) e ∙ append-nil (under k ps)
 
 -- the entries of pairs with one more
-pub update_pairs : (n : ℕ) (qs : List Pair) (s : MarkedSegment) (path : List MarkedSegment) (b : Bool) (l : Leaf) (g : Tree → Option Tree) (o : Option Tree) → g (node_within n (under s.seg qs)) ≡ o
-    → ((t : Tree) → o ≡ Some t → t ≡ node_within n (under s.seg qs ++ pair path b l ∷ [])) → update s g (entries_within n qs) ≡ option_map (λ t. entries_within n (qs ++ pair (s ∷ path) b l ∷ [])) o
+pub update_pairs : (n : ℕ) (qs : List Pair) (s : ParsedSegment) (path : List ParsedSegment) (b : Bool) (l : Leaf) (g : Tree → Option Tree) (o : Option Tree) → g (node_within n (under s.segment qs)) ≡ o
+    → ((t : Tree) → o ≡ Some t → t ≡ node_within n (under s.segment qs ++ pair path b l ∷ [])) → update s g (entries_within n qs) ≡ option_map (λ t. entries_within n (qs ++ pair (s ∷ path) b l ∷ [])) o
 update_pairs n qs s path b l g o e same =
-    update_entries s g (λ k. head_mark k qs) (λ k. head_mark k (qs ++ pair (s ∷ path) b l ∷ [])) (λ k. node_within n (under k qs)) (λ k. node_within n (under k (qs ++ pair (s ∷ path) b l ∷ []))) o
-    (λ k d. (mark_push k qs s path b l d, ap (node_within n) (under_other k s qs path b l d)))
+    update_entries s g (λ k. head_escaped k qs) (λ k. head_escaped k (qs ++ pair (s ∷ path) b l ∷ [])) (λ k. node_within n (under k qs)) (λ k. node_within n (under k (qs ++ pair (s ∷ path) b l ∷ []))) o
+    (λ k d. (escaped_push k qs s path b l d, ap (node_within n) (under_other k s qs path b l d)))
     e (λ t d. same t d ∙ ap (node_within n) (sym (under_same s qs path b l)))
-    (heads qs) (ascends_heads qs) (λ d. mark_there s.seg qs _ d) (λ d. (mark_new s.seg qs s path b l d (is_itself s.seg), ap (node_within n) (none_under s.seg qs d) ∙ node_nothing n))
-    ∙ ap (λ (ks : List Segment). option_map (λ t. entries_of (λ k. head_mark k (qs ++ pair (s ∷ path) b l ∷ [])) (λ k. node_within n (under k (qs ++ pair (s ∷ path) b l ∷ []))) ks) o) (sym (heads_push qs s path b l))
+    (heads qs) (ascends_heads qs) (λ d. escaped_there s.segment qs _ d) (λ d. (escaped_new s.segment qs s path b l d (is_itself s.segment), ap (node_within n) (none_under s.segment qs d) ∙ node_nothing n))
+    ∙ ap (λ (ks : List Segment). option_map (λ t. entries_of (λ k. head_escaped k (qs ++ pair (s ∷ path) b l ∷ [])) (λ k. node_within n (under k (qs ++ pair (s ∷ path) b l ∷ []))) ks) o) (sym (heads_push qs s path b l))

@@ -89,60 +89,60 @@ rooted fm (Data.tuple_variant name ds) e = inl (branches_paths ((name, value_par
 rooted fm (Data.struct_variant name ms) e = inl (branches_paths ((name, branches (member_branches fm ms)) ∷ []))
 
 -- some pairs whose histories are permitted are a tree
-pairs_tree : (fm : ArrayFormat) (form : Bool) (depth : ℕ) (text : List ℕ) (ps : List Pair) → ArePairs depth (tokens form text) ps → HasSomePair ps → AllCompatible fm ps → IsTree form depth text (node ps)
-pairs_tree fm form depth [] [] g h a = absurd h
-pairs_tree fm form depth [] (p ∷ ps) g h a = absurd (none (same_Some [] (p ∷ ps) (found_pairs g)))
+pairs_tree : (fm : ArrayFormat) (is_form : Bool) (depth : ℕ) (text : List ℕ) (ps : List Pair) → ArePairs depth (tokens is_form text) ps → HasSomePair ps → AllCompatible fm ps → IsTree is_form depth text (node ps)
+pairs_tree fm is_form depth [] [] g h a = absurd h
+pairs_tree fm is_form depth [] (p ∷ ps) g h a = absurd (none (same_Some [] (p ∷ ps) (found_pairs g)))
   where
     none : [] ≡ p ∷ ps → ⊥
     none e = cc
-pairs_tree fm form depth (b ∷ text) ps g h a = (ps, record { grammar = g; histories = compatible_permitted fm ps a }, refl)
+pairs_tree fm is_form depth (b ∷ text) ps g h a = (ps, record { grammar = g; histories = compatible_permitted fm ps a }, refl)
 
-readable : (form : Bool) (depth : ℕ) (p : Part) → has_key p.path ≡ true → IsFine form p → length (entry_of p).path ≤ depth + 1 → IsParseable form depth p
-readable form depth p h f l = record { some = h; segments = f.0; short = l; value = by p.value f.1 }
+readable : (is_form : Bool) (depth : ℕ) (p : Part) → has_key p.path ≡ true → IsFine is_form p → length (entry_of p).path ≤ depth + 1 → IsParseable is_form depth p
+readable is_form depth p h f l = record { some = h; segments = f.0; short = l; value = by p.value f.1 }
   where
     by : (v : Option (List ℕ)) → IsByteValue v → IsValueOf ([] ∷ []) v
     by None b = b
     by (Some v) b = b
 
 -- the tree of the text of the parts, in another order
-pub written_tree : (fm : ArrayFormat) (form : Bool) (depth : ℕ) (ps qs : List Part) → IsRooted ps → AllByRecursion (IsFine form) ps → AllByRecursion (λ (p : Part). length (entry_of p).path ≤ depth + 1) ps → Perm ps qs
-    → HasSomePair (pairs form qs) → AllCompatible fm (pairs form qs) → IsTree form depth (written form false (map entry_of qs)) (node (pairs form qs))
+pub written_tree : (fm : ArrayFormat) (is_form : Bool) (depth : ℕ) (ps qs : List Part) → IsRooted ps → AllByRecursion (IsFine is_form) ps → AllByRecursion (λ (p : Part). length (entry_of p).path ≤ depth + 1) ps → Perm ps qs
+    → HasSomePair (pairs is_form qs) → AllCompatible fm (pairs is_form qs) → IsTree is_form depth (written is_form false (map entry_of qs)) (node (pairs is_form qs))
 unfolding written entry_text path_text
-written_tree fm form depth ps qs r f l w h a = by r
+written_tree fm is_form depth ps qs r f l w h a = by r
   where
-    alone : (v : Option (List ℕ)) → IsByteValue v → HasSomePair (pairs form (leaf_part v ∷ [])) → AllCompatible fm (pairs form (leaf_part v ∷ [])) → IsTree form depth (written form false (map entry_of (leaf_part v ∷ []))) (node (pairs form (leaf_part v ∷ [])))
+    alone : (v : Option (List ℕ)) → IsByteValue v → HasSomePair (pairs is_form (leaf_part v ∷ [])) → AllCompatible fm (pairs is_form (leaf_part v ∷ [])) → IsTree is_form depth (written is_form false (map entry_of (leaf_part v ∷ []))) (node (pairs is_form (leaf_part v ∷ [])))
     alone None b h a = refl
     alone (Some v) b h a =
-        pairs_tree fm form depth (written form false (map entry_of (leaf_part (Some v) ∷ []))) (pairs form (leaf_part (Some v) ∷ []))
-        (written_pair form depth (entry_of (leaf_part (Some v))) (record { segments = tt; short = omega arith; value = b })) h a
+        pairs_tree fm is_form depth (written is_form false (map entry_of (leaf_part (Some v) ∷ []))) (pairs is_form (leaf_part (Some v) ∷ []))
+        (written_pair is_form depth (entry_of (leaf_part (Some v))) (record { segments = tt; short = omega arith; value = b })) h a
 
-    by : IsRooted ps → IsTree form depth (written form false (map entry_of qs)) (node (pairs form qs))
+    by : IsRooted ps → IsTree is_form depth (written is_form false (map entry_of qs)) (node (pairs is_form qs))
     by (inl p) =
-        pairs_tree fm form depth (written form false (map entry_of qs)) (pairs form qs)
-        (parts_parsed form depth qs
-        (all_both (λ (p : Part). has_key p.path ≡ true) (λ (p : Part). IsFine form p × (length (entry_of p).path ≤ depth + 1)) (IsParseable form depth) (λ e q r. readable form depth e q r.0 r.1) qs (perm_all (λ (p : Part). has_key p.path ≡ true) w p)
-        (all_both (IsFine form) (λ (p : Part). length (entry_of p).path ≤ depth + 1) (λ (p : Part). IsFine form p × (length (entry_of p).path ≤ depth + 1)) (λ e q r. (q, r)) qs (perm_all (IsFine form) w f) (perm_all (λ (p : Part). length (entry_of p).path ≤ depth + 1) w l)))) h a
+        pairs_tree fm is_form depth (written is_form false (map entry_of qs)) (pairs is_form qs)
+        (parts_parsed is_form depth qs
+        (all_both (λ (p : Part). has_key p.path ≡ true) (λ (p : Part). IsFine is_form p × (length (entry_of p).path ≤ depth + 1)) (IsParseable is_form depth) (λ e q r. readable is_form depth e q r.0 r.1) qs (perm_all (λ (p : Part). has_key p.path ≡ true) w p)
+        (all_both (IsFine is_form) (λ (p : Part). length (entry_of p).path ≤ depth + 1) (λ (p : Part). IsFine is_form p × (length (entry_of p).path ≤ depth + 1)) (λ e q r. (q, r)) qs (perm_all (IsFine is_form) w f) (perm_all (λ (p : Part). length (entry_of p).path ≤ depth + 1) w l)))) h a
     by (inr p) =
         let one : qs ≡ leaf_part p.0 ∷ [] = perm_one (leaf_part p.0) qs (subst (λ (l : List Part). Perm l qs) p.1 w) in
-        let b : AllByRecursion (IsFine form) (leaf_part p.0 ∷ []) = subst (AllByRecursion (IsFine form)) p.1 f in
-        subst (λ (l : List Part). IsTree form depth (written form false (map entry_of l)) (node (pairs form l))) (sym one)
-        (alone p.0 b.0.1 (subst (λ (l : List Part). HasSomePair (pairs form l)) one h) (subst (λ (l : List Part). AllCompatible fm (pairs form l)) one a))
+        let b : AllByRecursion (IsFine is_form) (leaf_part p.0 ∷ []) = subst (AllByRecursion (IsFine is_form)) p.1 f in
+        subst (λ (l : List Part). IsTree is_form depth (written is_form false (map entry_of l)) (node (pairs is_form l))) (sym one)
+        (alone p.0 b.0.1 (subst (λ (l : List Part). HasSomePair (pairs is_form l)) one h) (subst (λ (l : List Part). AllCompatible fm (pairs is_form l)) one a))
 
 -- parts in an order that only swaps those whose paths don't overlap are read back
 parts_back : (config : Config) (shape : Shape) (d : Data) (qs : List Part) → is_distinct shape ≡ true → IsPlainFor config shape d → is_listed config.array_format false d ≡ true
-    → Perm (parts config.array_format d) qs → Swaps (pairs config.form (parts config.array_format d)) (pairs config.form qs) → IsReadBack config shape d (written config.form false (map entry_of qs))
+    → Perm (parts config.array_format d) qs → Swaps (pairs config.is_form (parts config.array_format d)) (pairs config.is_form qs) → IsReadBack config shape d (written config.is_form false (map entry_of qs))
 parts_back config shape d qs dist w li q s =
     let fm = config.array_format in
-    let form = config.form in
+    let is_form = config.is_form in
     let depth = config.max_depth in
     let r = parts_of depth fm d li w.whole in
     let f = fitting shape d w.fits in
-    let g = good fm form f w.plain in
-    let ps = pairs form qs in
-    let b = back fm form (are_rejected config.duplicates) f dist w.plain false li (longest ps) ps (le_refl (longest ps)) s in
+    let g = good fm is_form f w.plain in
+    let ps = pairs is_form qs in
+    let b = back fm is_form (are_rejected config.duplicates) f dist w.plain false li (longest ps) ps (le_refl (longest ps)) s in
     record {
       tree = node ps;
-      is_tree = written_tree fm form depth (parts fm d) qs (rooted fm d li) g.fine r.1 q (some_pairs form (parts fm d) ps g.full (perm_map (part_pair form) q)) (pairs_compatible fm form qs (perm_tidy fm form q g.tidy));
+      is_tree = written_tree fm is_form depth (parts fm d) qs (rooted fm d li) g.fine r.1 q (some_pairs is_form (parts fm d) ps g.full (perm_map (part_pair is_form) q)) (pairs_compatible fm is_form qs (perm_tidy fm is_form q g.tidy));
       answer = b.answer;
       reads = b.reads;
       same = b.same;
@@ -150,14 +150,14 @@ parts_back config shape d qs dist w li q s =
 
 -- Plain data that are written without an error are read back from their entries in every order that keeps those with one path.
 pub lists_back : (config : Config) (shape : Shape) (d : Data) (es : List Entry) → is_distinct shape ≡ true → IsPlainFor config shape d → is_listed config.array_format false d ≡ true → KeepsPaths (entries config d).entries es
-    → IsReadBack config shape d (written config.form false es)
+    → IsReadBack config shape d (written config.is_form false es)
 lists_back config shape d es dist w li k =
     let fm = config.array_format in
     let r = parts_of config.max_depth fm d li w.whole in
-    let g = good fm config.form (fitting shape d w.fits) w.plain in
+    let g = good fm config.is_form (fitting shape d w.fits) w.plain in
     let o = kept_lift (parts fm d) es (subst (λ (l : List Entry). KeepsPaths l es) r.0 k) in
-    subst (λ (l : List Entry). IsReadBack config shape d (written config.form false l)) (sym o.1)
-    (parts_back config shape d o.0 dist w li (kept_perm o.2) (kept_swaps fm config.form o.2 g.tidy))
+    subst (λ (l : List Entry). IsReadBack config shape d (written config.is_form false l)) (sym o.1)
+    (parts_back config shape d o.0 dist w li (kept_perm o.2) (kept_swaps fm config.is_form o.2 g.tidy))
 
 mutual
   listed : (below : Bool) (d : Data) → is_listed indexed below d ≡ true
@@ -197,13 +197,13 @@ pub in_format : (config : Config) (d : Data) → config.array_format ≡ indexed
 in_format config d e = ap (λ f. is_listed f false d) e ∙ listed false d
 
 pub read_back : (config : Config) (shape : Shape) (d : Data) (es : List Entry) → config.array_format ≡ indexed → is_distinct shape ≡ true → IsPlainFor config shape d → IsPermutation (entries config d).entries es
-    → IsReadBack config shape d (written config.form false es)
+    → IsReadBack config shape d (written config.is_form false es)
 read_back config shape d es e dist w p =
     let fm = config.array_format in
-    let form = config.form in
+    let is_form = config.is_form in
     let li = in_format config d e in
     let r = parts_of config.max_depth fm d li w.whole in
-    let g = good fm form (fitting shape d w.fits) w.plain in
+    let g = good fm is_form (fitting shape d w.fits) w.plain in
     let o = lifted (parts fm d) es (subst (λ (l : List Entry). Perm l es) r.0 (Perm-from (entries config d).entries es p)) in
-    subst (λ (l : List Entry). IsReadBack config shape d (written form false l)) (sym o.1)
-    (parts_back config shape d o.0 dist w li o.2 (perm_swaps form o.2 (subst (λ f. AllTidy f form (parts fm d)) e g.tidy)))
+    subst (λ (l : List Entry). IsReadBack config shape d (written is_form false l)) (sym o.1)
+    (parts_back config shape d o.0 dist w li o.2 (perm_swaps is_form o.2 (subst (λ f. AllTidy f is_form (parts fm d)) e g.tidy)))

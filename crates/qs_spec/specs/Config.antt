@@ -15,13 +15,13 @@ pub data Duplicates : Type 0 where
 -- depth limit, whether form mode, array format, and what happens to several values
 pub record Config : Type 0 where
   pub max_depth : ℕ
-  pub form : Bool
+  pub is_form : Bool
   pub array_format : ArrayFormat
   pub duplicates : Duplicates
 
 -- the default configuration
 abbrev pub default : Config
-default = record { max_depth = 5; form = false; array_format = indexed; duplicates = take_last }
+default = record { max_depth = 5; is_form = false; array_format = indexed; duplicates = take_last }
 
 -- several values are rejected
 abbrev pub are_rejected : Duplicates → Bool

@@ -29,7 +29,7 @@ encoded_byte false b = if is_kept_in_query b then b ∷ [] else (if b == 32 then
 
 -- encoded bytes, one after another
 abbrev pub encoded : Bool → List ℕ → List ℕ
-encoded form bytes = flat_map (encoded_byte form) bytes
+encoded is_form bytes = flat_map (encoded_byte is_form) bytes
 
 -- `+` is a space
 abbrev pub unplus : ℕ → ℕ
@@ -47,5 +47,5 @@ decoded (b ∷ c ∷ e ∷ rest) =
     else unplus b ∷ decoded (c ∷ e ∷ rest)
 
 -- the bytes hold `+` or `%`, so decoding may change them
-abbrev pub is_marked : List ℕ → Bool
-is_marked raw = list_any (λ b. b == 43 || b == 37) raw
+abbrev pub has_escape : List ℕ → Bool
+has_escape raw = list_any (λ b. b == 43 || b == 37) raw

@@ -1,63 +1,63 @@
 -- The grammar: which pairs a list of tokens is parsed as.
 use Rattle.std.specs.Prelude.{◌≡◌, ℕ, zero, suc, Bool, true, false, ◌||◌, not, List, [], ◌∷◌, ◌++◌, IsTrue, IsFalse}
 use Rattle.std.specs.List.{list_all}
-use Rattle.qs_spec.specs.Token.{Kind, Token, raw_of}
-use Rattle.qs_spec.specs.Segment.{MarkedSegment, marked_segment_of}
+use Rattle.qs_spec.specs.Token.{TokenKind, Token, raw_of}
+use Rattle.qs_spec.specs.Segment.{ParsedSegment, parsed_segment_of}
 use Rattle.qs_spec.specs.Leaf.{Leaf, value_leaf}
-use Rattle.qs_spec.specs.Token.Kind.{Amp, Equals, Open, Close}
+use Rattle.qs_spec.specs.Token.TokenKind.{Amp, Equals, Open, Close}
 use Rattle.qs_spec.specs.Leaf.Leaf.{NoValue}
 
--- A pair whose key ends in `[]` pushes its leaf onto a sequence; any other pair is direct.
+-- A pair whose key ends in `[]` pushes its leaf onto a sequence; any other pair assigns it.
 pub record Pair : Type 0 where
-  pub path : List MarkedSegment
+  pub path : List ParsedSegment
   pub push : Bool
   pub leaf : Leaf
 
 -- the two kinds of pairs
-abbrev pub direct : List MarkedSegment → Leaf → Pair
-direct path leaf = record { path = path; push = false; leaf = leaf }
+abbrev pub assigned : List ParsedSegment → Leaf → Pair
+assigned path leaf = record { path = path; push = false; leaf = leaf }
 
-abbrev pub pushed : List MarkedSegment → Leaf → Pair
+abbrev pub pushed : List ParsedSegment → Leaf → Pair
 pushed path leaf = record { path = path; push = true; leaf = leaf }
 
 -- the kind of a token
-abbrev pub is_amp : Kind → Bool
+abbrev pub is_amp : TokenKind → Bool
 is_amp Amp = true
 is_amp _ = false
 
-abbrev pub is_equals : Kind → Bool
+abbrev pub is_equals : TokenKind → Bool
 is_equals Equals = true
 is_equals _ = false
 
-abbrev pub is_open : Kind → Bool
+abbrev pub is_open : TokenKind → Bool
 is_open Open = true
 is_open _ = false
 
-abbrev pub is_close : Kind → Bool
+abbrev pub is_close : TokenKind → Bool
 is_close Close = true
 is_close _ = false
 
 -- what ends the last key
-abbrev pub ends_last : Kind → Bool
+abbrev pub ends_last : TokenKind → Bool
 ends_last k = is_amp k || is_equals k
 
 -- what ends a root key: also an opening bracket, if the depth limit is above 0
-abbrev pub ends_root : ℕ → Kind → Bool
+abbrev pub ends_root : ℕ → TokenKind → Bool
 ends_root zero k = ends_last k
 ends_root (suc depth) k = ends_last k || is_open k
 
 -- a run without what ends it
-abbrev pub IsRun : (Kind → Bool) → List Token → Type 0
+abbrev pub IsRun : (TokenKind → Bool) → List Token → Type 0
 IsRun ends ts = IsTrue (list_all (λ t. not (ends t.kind)) ts)
 
 -- the path of a root key
-abbrev pub root : List Token → List MarkedSegment
+abbrev pub root : List Token → List ParsedSegment
 root [] = []
-root (t ∷ key) = marked_segment_of (raw_of (t ∷ key)) ∷ []
+root (t ∷ key) = parsed_segment_of (raw_of (t ∷ key)) ∷ []
 
 -- a path and one segment more
-abbrev pub longer : List MarkedSegment → List ℕ → List MarkedSegment
-longer path raw = path ++ marked_segment_of raw ∷ []
+abbrev pub longer : List ParsedSegment → List ℕ → List ParsedSegment
+longer path raw = path ++ parsed_segment_of raw ∷ []
 
 -- nothing, or `=` and a value
 pub data IsValue : List Token → Leaf → Type 0 where
@@ -66,29 +66,29 @@ pub data IsValue : List Token → Leaf → Type 0 where
 
 -- What follows a path and an opening bracket with these bytes. At most `room` more segments are allowed. It is a push, a segment if
 -- one more is allowed, or the last key otherwise.
-pub data IsBrackets : ℕ → List MarkedSegment → List ℕ → List Token → Pair → Type 0 where
-  push : {room : ℕ} {path : List MarkedSegment} {bracket : List ℕ} {t : Token} {value : List Token} {leaf : Leaf}
+pub data IsBrackets : ℕ → List ParsedSegment → List ℕ → List Token → Pair → Type 0 where
+  push : {room : ℕ} {path : List ParsedSegment} {bracket : List ℕ} {t : Token} {value : List Token} {leaf : Leaf}
       → t.kind ≡ Close → IsValue value leaf
       → IsBrackets room path bracket (t ∷ value) (pushed path leaf)
-  segment : {room : ℕ} {path : List MarkedSegment} {bracket : List ℕ} {leaf : Leaf} (s t : Token) (run value : List Token)
+  segment : {room : ℕ} {path : List ParsedSegment} {bracket : List ℕ} {leaf : Leaf} (s t : Token) (run value : List Token)
       → IsRun is_close (s ∷ run) → t.kind ≡ Close → IsValue value leaf
-      → IsBrackets (suc room) path bracket (s ∷ run ++ t ∷ value) (direct (longer path (raw_of (s ∷ run))) leaf)
-  more : {room : ℕ} {path : List MarkedSegment} {bracket : List ℕ} {pair : Pair} (s t u : Token) (run rest : List Token)
+      → IsBrackets (suc room) path bracket (s ∷ run ++ t ∷ value) (assigned (longer path (raw_of (s ∷ run))) leaf)
+  more : {room : ℕ} {path : List ParsedSegment} {bracket : List ℕ} {pair : Pair} (s t u : Token) (run rest : List Token)
       → IsRun is_close (s ∷ run) → t.kind ≡ Close → u.kind ≡ Open
       → IsBrackets room (longer path (raw_of (s ∷ run))) u.raw rest pair
       → IsBrackets (suc room) path bracket (s ∷ run ++ t ∷ u ∷ rest) pair
-  last : {path : List MarkedSegment} {bracket : List ℕ} {leaf : Leaf} (t : Token) (run value : List Token)
+  last : {path : List ParsedSegment} {bracket : List ℕ} {leaf : Leaf} (t : Token) (run value : List Token)
       → IsFalse (is_close t.kind) → IsRun ends_last run → IsValue value leaf
-      → IsBrackets 0 path bracket (t ∷ run ++ value) (direct (longer path (bracket ++ t.raw ++ raw_of run)) leaf)
+      → IsBrackets 0 path bracket (t ∷ run ++ value) (assigned (longer path (bracket ++ t.raw ++ raw_of run)) leaf)
 
 -- the tokens are one pair
 pub data IsPair (depth : ℕ) : List Token → Pair → Type 0 where
   name : {t : Token} {key : List Token}
       → IsRun (ends_root depth) (t ∷ key)
-      → IsPair depth (t ∷ key) (direct (root (t ∷ key)) NoValue)
+      → IsPair depth (t ∷ key) (assigned (root (t ∷ key)) NoValue)
   value : {leaf : Leaf} (t : Token) (key value : List Token)
       → IsRun (ends_root depth) key → IsValue (t ∷ value) leaf
-      → IsPair depth (key ++ t ∷ value) (direct (root key) leaf)
+      → IsPair depth (key ++ t ∷ value) (assigned (root key) leaf)
   brackets : {pair : Pair} (t : Token) (key rest : List Token)
       → IsRun (ends_root depth) key → IsTrue (is_open t.kind) → IsTrue (ends_root depth Open) → IsBrackets depth (root key) t.raw rest pair
       → IsPair depth (key ++ t ∷ rest) pair

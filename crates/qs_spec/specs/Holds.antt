@@ -21,7 +21,7 @@ abbrev mutual
 
   pub entries_leaf_count : Entries → ℕ
   entries_leaf_count no_entries = 0
-  entries_leaf_count (entry k mark t es) = leaf_count t + entries_leaf_count es
+  entries_leaf_count (entry k escaped t es) = leaf_count t + entries_leaf_count es
 
 -- how deep maps are nested
 abbrev mutual
@@ -37,7 +37,7 @@ abbrev mutual
 
   pub entries_nesting : Entries → ℕ
   entries_nesting no_entries = 0
-  entries_nesting (entry k mark t es) = max (nesting t) (entries_nesting es)
+  entries_nesting (entry k escaped t es) = max (nesting t) (entries_nesting es)
 
 -- the tree is a leaf, and each item is one
 abbrev pub IsLeaf : Tree → Type 0
@@ -73,4 +73,4 @@ abbrev mutual
 
   pub AreSound : Entries → Type 0
   AreSound no_entries = ⊤
-  AreSound (entry k mark t es) = IsLowAtEmpty k t × IsSound t × AreSound es
+  AreSound (entry k escaped t es) = IsLowAtEmpty k t × IsSound t × AreSound es

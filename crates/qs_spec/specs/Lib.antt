@@ -14,7 +14,7 @@ pub mod Holds
 pub mod Permutation
 pub mod Order
 pub mod Input
-pub mod Marks
+pub mod Escapes
 pub mod Data
 pub mod Shape
 pub mod Scalar

@@ -24,7 +24,7 @@ last_item reject_duplicates (item t (item u xs)) = cond reject_duplicates None (
 
 -- the last text of a node: its own if it is a text, or the text of a sequence's last item
 abbrev pub last_text : Bool → Tree → Option (List ℕ)
-last_text reject_duplicates (leaf (Text bytes mark)) = Some bytes
+last_text reject_duplicates (leaf (Text bytes escaped)) = Some bytes
 last_text reject_duplicates (sequence xs) = last_item reject_duplicates xs
 last_text reject_duplicates _ = None
 
@@ -53,12 +53,12 @@ is_int (Str bytes) = false
 -- all keys are integers
 abbrev pub are_ints : Entries → Bool
 are_ints no_entries = true
-are_ints (entry k mark t es) = is_int k && are_ints es
+are_ints (entry k escaped t es) = is_int k && are_ints es
 
 -- each item at its own index; an entry with another key is no item
 abbrev pub placed : ℕ → Entries → List (Option Tree)
 placed i no_entries = []
-placed i (entry k mark t es) = cond (is_place i k) (Some t) None ∷ placed (i + 1) es
+placed i (entry k escaped t es) = cond (is_place i k) (Some t) None ∷ placed (i + 1) es
 
 -- the items of a sequence
 abbrev pub sequence_items : Items → List (Option Tree)
@@ -69,7 +69,7 @@ sequence_items (item t xs) = Some t ∷ sequence_items xs
 abbrev pub items : Tree → Option (List (Option Tree))
 items (leaf NoValue) = Some []
 items (leaf Null) = Some []
-items (leaf (Text bytes mark)) = Some (Some (leaf (Text bytes mark)) ∷ [])
+items (leaf (Text bytes escaped)) = Some (Some (leaf (Text bytes escaped)) ∷ [])
 items (sequence xs) = Some (sequence_items xs)
 items (mapping es) = cond (are_ints es) (Some (placed 0 es)) None
 items uninitialized = None
@@ -77,17 +77,17 @@ items uninitialized = None
 -- the value at a key
 abbrev pub value_at_key : Segment → Entries → Option Tree
 value_at_key k no_entries = None
-value_at_key k (entry j mark t es) = if is_same_segment k j then Some t else value_at_key k es
+value_at_key k (entry j escaped t es) = if is_same_segment k j then Some t else value_at_key k es
 
 -- the values whose key has the text
 abbrev pub found : List ℕ → Entries → List Tree
 found name no_entries = []
-found name (entry k mark t es) = cond (bytes_eq (segment_text k) name) (t ∷ found name es) (found name es)
+found name (entry k escaped t es) = cond (bytes_eq (segment_text k) name) (t ∷ found name es) (found name es)
 
 -- the text of every key passes the test
 abbrev pub all_keys : (List ℕ → Bool) → Entries → Bool
 all_keys test no_entries = true
-all_keys test (entry k mark t es) = test (segment_text k) && all_keys test es
+all_keys test (entry k escaped t es) = test (segment_text k) && all_keys test es
 
 -- every key is UTF-8
 abbrev pub keys_are_text : Entries → Bool
@@ -107,5 +107,5 @@ under_empty t = entry (Str []) false t no_entries
 
 -- what a struct variant reads: a text counts as a map
 abbrev pub as_map : Tree → Tree
-as_map (leaf (Text bytes mark)) = mapping (under_empty (leaf (Text bytes mark)))
+as_map (leaf (Text bytes escaped)) = mapping (under_empty (leaf (Text bytes escaped)))
 as_map t = t

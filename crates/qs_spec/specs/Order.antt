@@ -1,6 +1,6 @@
--- Permutations of pairs, and inputs with the same tree. Comparisons ignore marks.
+-- Permutations of pairs, and inputs with the same tree. Comparisons ignore escapes.
 use Rattle.std.specs.Prelude.{◌≡◌, ℕ, Bool, true, false, ◌||◌, ◌&&◌, List, [], ◌∷◌, map}
-use Rattle.qs_spec.specs.Segment.{MarkedSegment, is_same_segment}
+use Rattle.qs_spec.specs.Segment.{ParsedSegment, is_same_segment}
 use Rattle.qs_spec.specs.Leaf.{Leaf}
 use Rattle.qs_spec.specs.Leaf.Leaf.{NoValue, Null, Text}
 use Rattle.qs_spec.specs.Grammar.{Pair}
@@ -11,47 +11,47 @@ use Rattle.qs_spec.specs.Tree.Items.{no_items, item}
 use Rattle.qs_spec.specs.Tree.Entries.{no_entries, entry}
 
 -- the second path begins with the first
-abbrev pub is_front : List MarkedSegment → List MarkedSegment → Bool
+abbrev pub is_front : List ParsedSegment → List ParsedSegment → Bool
 is_front [] q = true
 is_front (s ∷ p) [] = false
-is_front (s ∷ p) (t ∷ q) = is_same_segment s.seg t.seg && is_front p q
+is_front (s ∷ p) (t ∷ q) = is_same_segment s.segment t.segment && is_front p q
 
 -- two pairs with overlapping paths: equal, or one a prefix of the other
 abbrev pub overlap : Pair → Pair → Bool
 overlap p q = is_front p.path q.path || is_front q.path p.path
 
--- a leaf, a pair, a tree without marks
-abbrev pub unmarked_leaf : Leaf → Leaf
-unmarked_leaf NoValue = NoValue
-unmarked_leaf Null = Null
-unmarked_leaf (Text bytes mark) = Text bytes false
+-- a leaf, a pair, a tree in which no text counts as escaped
+abbrev pub leaf_ignoring_escapes : Leaf → Leaf
+leaf_ignoring_escapes NoValue = NoValue
+leaf_ignoring_escapes Null = Null
+leaf_ignoring_escapes (Text bytes escaped) = Text bytes false
 
-abbrev pub unmarked_segment : MarkedSegment → MarkedSegment
-unmarked_segment s = record { seg = s.seg; mark = false }
+abbrev pub segment_ignoring_escapes : ParsedSegment → ParsedSegment
+segment_ignoring_escapes s = record { segment = s.segment; escaped = false }
 
-abbrev pub unmarked_pair : Pair → Pair
-unmarked_pair p = record { path = map unmarked_segment p.path; push = p.push; leaf = unmarked_leaf p.leaf }
+abbrev pub pair_ignoring_escapes : Pair → Pair
+pair_ignoring_escapes p = record { path = map segment_ignoring_escapes p.path; push = p.push; leaf = leaf_ignoring_escapes p.leaf }
 
 abbrev mutual
-  pub unmarked : Tree → Tree
-  unmarked (leaf l) = leaf (unmarked_leaf l)
-  unmarked (sequence xs) = sequence (unmarked_items xs)
-  unmarked (mapping es) = mapping (unmarked_entries es)
-  unmarked uninitialized = uninitialized
+  pub ignoring_escapes : Tree → Tree
+  ignoring_escapes (leaf l) = leaf (leaf_ignoring_escapes l)
+  ignoring_escapes (sequence xs) = sequence (items_ignoring_escapes xs)
+  ignoring_escapes (mapping es) = mapping (entries_ignoring_escapes es)
+  ignoring_escapes uninitialized = uninitialized
 
-  pub unmarked_items : Items → Items
-  unmarked_items no_items = no_items
-  unmarked_items (item t xs) = item (unmarked t) (unmarked_items xs)
+  pub items_ignoring_escapes : Items → Items
+  items_ignoring_escapes no_items = no_items
+  items_ignoring_escapes (item t xs) = item (ignoring_escapes t) (items_ignoring_escapes xs)
 
-  pub unmarked_entries : Entries → Entries
-  unmarked_entries no_entries = no_entries
-  unmarked_entries (entry k mark t es) = entry k false (unmarked t) (unmarked_entries es)
+  pub entries_ignoring_escapes : Entries → Entries
+  entries_ignoring_escapes no_entries = no_entries
+  entries_ignoring_escapes (entry k escaped t es) = entry k false (ignoring_escapes t) (entries_ignoring_escapes es)
 
--- the same pairs, ignoring marks, in an order that keeps overlapping paths in order
+-- the same pairs, ignoring escapes, in an order that keeps overlapping paths in order
 abbrev pub AreReordered : List Pair → List Pair → Type 0
-AreReordered ps qs = KeepsOrder overlap (map unmarked_pair ps) (map unmarked_pair qs)
+AreReordered ps qs = KeepsOrder overlap (map pair_ignoring_escapes ps) (map pair_ignoring_escapes qs)
 
--- two inputs have trees that differ at most in marks, or neither has a tree
-pub record AreEquivalent (form : Bool) (depth : ℕ) (a b : List ℕ) : Type 0 where
-  pub there : (t : Tree) → IsTree form depth a t → (u : Tree) × IsTree form depth b u × (unmarked u ≡ unmarked t)
-  pub back : (u : Tree) → IsTree form depth b u → (t : Tree) × IsTree form depth a t × (unmarked t ≡ unmarked u)
+-- two inputs have trees that differ at most in which texts are escaped, or neither has a tree
+pub record AreEquivalent (is_form : Bool) (depth : ℕ) (a b : List ℕ) : Type 0 where
+  pub there : (t : Tree) → IsTree is_form depth a t → (u : Tree) × IsTree is_form depth b u × (ignoring_escapes u ≡ ignoring_escapes t)
+  pub back : (u : Tree) → IsTree is_form depth b u → (t : Tree) × IsTree is_form depth a t × (ignoring_escapes t ≡ ignoring_escapes u)

@@ -14,7 +14,7 @@ has_bytes (b ∷ s) = true
 
 -- a name that is read back: at least one byte, no digits after a leading zero, and in form mode no bracket
 abbrev pub is_plain_name : Bool → List ℕ → Bool
-is_plain_name form s = has_bytes s && not (is_numeral s && has_leading_zero s) && not (form && list_any is_bracket s)
+is_plain_name is_form s = has_bytes s && not (is_numeral s && has_leading_zero s) && not (is_form && list_any is_bracket s)
 
 -- an option, also within newtypes
 abbrev pub is_optional : Data → Bool
@@ -25,13 +25,13 @@ is_optional _ = false
 
 -- if a key has a text, that is such a name
 abbrev pub is_plain_text : Bool → Option (List ℕ) → Bool
-is_plain_text form None = false
-is_plain_text form (Some t) = is_plain_name form t
+is_plain_text is_form None = false
+is_plain_text is_form (Some t) = is_plain_name is_form t
 
 -- a key is a boolean, a whole number, a character, a text or a unit variant, with such a text
 abbrev pub is_plain_key : Bool → Data → Bool
-is_plain_key form (Data.bytes b) = false
-is_plain_key form k = is_plain_text form (key_text k)
+is_plain_key is_form (Data.bytes b) = false
+is_plain_key is_form k = is_plain_text is_form (key_text k)
 
 -- the text of a key is this one
 abbrev pub is_text_of : List ℕ → Option (List ℕ) → Bool
@@ -82,33 +82,33 @@ are_few ds = nat_le (count ds) 4294967295
 -- element.
 abbrev mutual
   pub is_plain : Bool → Data → Bool
-  is_plain form Data.unit = true
-  is_plain form Data.none = true
-  is_plain form (Data.some d) = not (is_optional d) && is_plain form d
-  is_plain form (Data.boolean b) = true
-  is_plain form (Data.unsigned n) = true
-  is_plain form (Data.signed n) = true
-  is_plain form (Data.character c) = true
-  is_plain form (Data.text t) = true
-  is_plain form (Data.bytes b) = true
-  is_plain form (Data.sequence ds) = are_few ds && are_plain form ds
-  is_plain form (Data.tuple ds) = are_few ds && are_plain form ds
-  is_plain form (Data.mapping ps) = written_keys_differ ps && are_plain_pairs form ps
-  is_plain form (Data.struct ms) = has_members ms && member_names_differ ms && are_plain_members form ms
-  is_plain form (Data.newtype d) = is_plain form d
-  is_plain form (Data.unit_variant name) = has_bytes name
-  is_plain form (Data.newtype_variant name d) = is_plain_name form name && is_plain form d
-  is_plain form (Data.tuple_variant name ds) = is_plain_name form name && has_values ds && are_few ds && are_plain form ds
-  is_plain form (Data.struct_variant name ms) = is_plain_name form name && has_members ms && member_names_differ ms && are_plain_members form ms
+  is_plain is_form Data.unit = true
+  is_plain is_form Data.none = true
+  is_plain is_form (Data.some d) = not (is_optional d) && is_plain is_form d
+  is_plain is_form (Data.boolean b) = true
+  is_plain is_form (Data.unsigned n) = true
+  is_plain is_form (Data.signed n) = true
+  is_plain is_form (Data.character c) = true
+  is_plain is_form (Data.text t) = true
+  is_plain is_form (Data.bytes b) = true
+  is_plain is_form (Data.sequence ds) = are_few ds && are_plain is_form ds
+  is_plain is_form (Data.tuple ds) = are_few ds && are_plain is_form ds
+  is_plain is_form (Data.mapping ps) = written_keys_differ ps && are_plain_pairs is_form ps
+  is_plain is_form (Data.struct ms) = has_members ms && member_names_differ ms && are_plain_members is_form ms
+  is_plain is_form (Data.newtype d) = is_plain is_form d
+  is_plain is_form (Data.unit_variant name) = has_bytes name
+  is_plain is_form (Data.newtype_variant name d) = is_plain_name is_form name && is_plain is_form d
+  is_plain is_form (Data.tuple_variant name ds) = is_plain_name is_form name && has_values ds && are_few ds && are_plain is_form ds
+  is_plain is_form (Data.struct_variant name ms) = is_plain_name is_form name && has_members ms && member_names_differ ms && are_plain_members is_form ms
 
   pub are_plain : Bool → Values → Bool
-  are_plain form no_values = true
-  are_plain form (one_value d ds) = is_plain form d && are_plain form ds
+  are_plain is_form no_values = true
+  are_plain is_form (one_value d ds) = is_plain is_form d && are_plain is_form ds
 
   pub are_plain_pairs : Bool → Pairs → Bool
-  are_plain_pairs form no_pairs = true
-  are_plain_pairs form (one_pair k d ps) = is_plain_key form k && is_plain form d && are_plain_pairs form ps
+  are_plain_pairs is_form no_pairs = true
+  are_plain_pairs is_form (one_pair k d ps) = is_plain_key is_form k && is_plain is_form d && are_plain_pairs is_form ps
 
   pub are_plain_members : Bool → Members → Bool
-  are_plain_members form no_members = true
-  are_plain_members form (one_member n d ms) = is_plain_name form n && is_plain form d && are_plain_members form ms
+  are_plain_members is_form no_members = true
+  are_plain_members is_form (one_member n d ms) = is_plain_name is_form n && is_plain is_form d && are_plain_members is_form ms

@@ -15,14 +15,14 @@ use Rattle.qs_spec.specs.Permutation.{KeepsOrder, IsReordering}
 
 -- the data is plain, fits the shape, and is written without an error
 pub record IsPlainFor (config : Config) (shape : Shape) (d : Data) : Type 0 where
-  pub plain : is_plain config.form d ≡ true
+  pub plain : is_plain config.is_form d ≡ true
   pub fits : fits shape d ≡ true
   pub whole : (entries config d).error ≡ None
 
 -- the input has a tree, and the shape reads the same data from it
 pub record IsReadBack (config : Config) (shape : Shape) (d : Data) (input : List ℕ) : Type 0 where
   pub tree : Tree
-  pub is_tree : IsTree config.form config.max_depth input tree
+  pub is_tree : IsTree config.is_form config.max_depth input tree
   pub answer : Data
   pub reads : ReadsBy config shape tree answer
   pub same : Same d answer

@@ -64,7 +64,7 @@ mutual
     -- I8 to I64
     signed : {bits : ℕ} {n : Tree} {d : Data} {t : List ℕ} → last_text reject_duplicates n ≡ Some t → signed_data bits t ≡ Some d → Reads reject_duplicates (Shape.signed bits) n d
     -- Char
-    character : {t : List ℕ} {mark : Bool} {d : Data} → character_data t ≡ Some d → Reads reject_duplicates Shape.character (Tree.leaf (Text t mark)) d
+    character : {t : List ℕ} {escaped : Bool} {d : Data} → character_data t ≡ Some d → Reads reject_duplicates Shape.character (Tree.leaf (Text t escaped)) d
     -- Text
     text_null : Reads reject_duplicates Shape.text (Tree.leaf Null) (Data.text [])
     text_no_value : Reads reject_duplicates Shape.text (Tree.leaf NoValue) (Data.text [])
@@ -86,19 +86,19 @@ mutual
     -- Map
     map_null : {k : KeyShape} {s : Shape} → Reads reject_duplicates (Shape.mapping k s) (Tree.leaf Null) (Data.mapping no_pairs)
     map_no_value : {k : KeyShape} {s : Shape} → Reads reject_duplicates (Shape.mapping k s) (Tree.leaf NoValue) (Data.mapping no_pairs)
-    map_text : {k : KeyShape} {s : Shape} {t : List ℕ} {mark : Bool} {ps : Pairs} → ReadsPairs reject_duplicates k s (under_empty (Tree.leaf (Text t mark))) ps
-        → Reads reject_duplicates (Shape.mapping k s) (Tree.leaf (Text t mark)) (Data.mapping ps)
+    map_text : {k : KeyShape} {s : Shape} {t : List ℕ} {escaped : Bool} {ps : Pairs} → ReadsPairs reject_duplicates k s (under_empty (Tree.leaf (Text t escaped))) ps
+        → Reads reject_duplicates (Shape.mapping k s) (Tree.leaf (Text t escaped)) (Data.mapping ps)
     map : {k : KeyShape} {s : Shape} {es : Entries} {ps : Pairs} → ReadsPairs reject_duplicates k s es ps → Reads reject_duplicates (Shape.mapping k s) (Tree.mapping es) (Data.mapping ps)
     -- Struct and StrictStruct, as ReadsStruct has it
     struct : {u : UnknownKeys} {fs : Fields} {n : Tree} {ms : Members} → ReadsStruct reject_duplicates u fs n ms → Reads reject_duplicates (Shape.struct u fs) n (Data.struct ms)
     -- Enum
-    variant : {vs : Variants} {kind : VariantKind} {key : Segment} {mark : Bool} {n : Tree} {es : Entries} {d : Data} → HasVariant (segment_text key) kind vs → ReadsVariant reject_duplicates kind (segment_text key) n d
-        → Reads reject_duplicates (Shape.enumeration vs) (Tree.mapping (Entries.entry key mark n es)) d
-    unit_variant : {vs : Variants} {name : List ℕ} {mark : Bool} → HasVariant name unit_kind vs → Reads reject_duplicates (Shape.enumeration vs) (Tree.leaf (Text name mark)) (Data.unit_variant name)
+    variant : {vs : Variants} {kind : VariantKind} {key : Segment} {escaped : Bool} {n : Tree} {es : Entries} {d : Data} → HasVariant (segment_text key) kind vs → ReadsVariant reject_duplicates kind (segment_text key) n d
+        → Reads reject_duplicates (Shape.enumeration vs) (Tree.mapping (Entries.entry key escaped n es)) d
+    unit_variant : {vs : Variants} {name : List ℕ} {escaped : Bool} → HasVariant name unit_kind vs → Reads reject_duplicates (Shape.enumeration vs) (Tree.leaf (Text name escaped)) (Data.unit_variant name)
     -- Any
     any_null : Reads reject_duplicates Shape.any (Tree.leaf Null) (Data.text [])
     any_no_value : Reads reject_duplicates Shape.any (Tree.leaf NoValue) Data.unit
-    any_text : {t : List ℕ} {mark : Bool} → IsTrue (is_utf8 t) → Reads reject_duplicates Shape.any (Tree.leaf (Text t mark)) (Data.text t)
+    any_text : {t : List ℕ} {escaped : Bool} → IsTrue (is_utf8 t) → Reads reject_duplicates Shape.any (Tree.leaf (Text t escaped)) (Data.text t)
     any_sequence : {xs : Items} {d : Data} → Reads reject_duplicates (Shape.sequence Shape.any) (Tree.sequence xs) d → Reads reject_duplicates Shape.any (Tree.sequence xs) d
     any_places : {es : Entries} {d : Data} → IsTrue (are_ints es) → Reads reject_duplicates (Shape.sequence Shape.any) (Tree.mapping es) d → Reads reject_duplicates Shape.any (Tree.mapping es) d
     any_map : {es : Entries} {d : Data} → IsFalse (are_ints es) → Reads reject_duplicates (Shape.mapping KeyShape.text Shape.any) (Tree.mapping es) d → Reads reject_duplicates Shape.any (Tree.mapping es) d
@@ -118,8 +118,8 @@ mutual
   -- the pairs of a map in their order
   pub data ReadsPairs (reject_duplicates : Bool) : KeyShape → Shape → Entries → Pairs → Type 0 where
     pairs_end : {k : KeyShape} {s : Shape} → ReadsPairs reject_duplicates k s Entries.no_entries no_pairs
-    pairs_more : {k : KeyShape} {s : Shape} {key : Segment} {mark : Bool} {n : Tree} {es : Entries} {a d : Data} {ps : Pairs} → key_data k (segment_text key) ≡ Some a → Reads reject_duplicates s n d → ReadsPairs reject_duplicates k s es ps
-        → ReadsPairs reject_duplicates k s (Entries.entry key mark n es) (one_pair a d ps)
+    pairs_more : {k : KeyShape} {s : Shape} {key : Segment} {escaped : Bool} {n : Tree} {es : Entries} {a d : Data} {ps : Pairs} → key_data k (segment_text key) ≡ Some a → Reads reject_duplicates s n d → ReadsPairs reject_duplicates k s es ps
+        → ReadsPairs reject_duplicates k s (Entries.entry key escaped n es) (one_pair a d ps)
 
   -- the fields of a node: by their names in a map whose keys are allowed, or by their indices in a sequence
   pub data ReadsStruct (reject_duplicates : Bool) : UnknownKeys → Fields → Tree → Members → Type 0 where

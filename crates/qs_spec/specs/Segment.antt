@@ -5,17 +5,17 @@ use Rattle.std.specs.declared.cmp.Ordering.{Ordering}
 use Rattle.std.specs.declared.cmp.Ordering.TheVariants.{Less, Greater}
 use Rattle.std.specs.Ordering.{nat_cmp, is_eq}
 use Rattle.std.specs.Cmp.Lexicographic.{slice_cmp}
-use Rattle.qs_spec.specs.Escape.{is_between, decoded, is_marked}
+use Rattle.qs_spec.specs.Escape.{is_between, decoded, has_escape}
 
 -- an integer key, or a string key by its bytes
 pub data Segment : Type 0 where
   Int : ℕ → Segment
   Str : List ℕ → Segment
 
--- a segment of an input, with a mark if its raw bytes hold `+` or `%`
-pub record MarkedSegment : Type 0 where
-  pub seg : Segment
-  pub mark : Bool
+-- a segment of an input, and whether its raw bytes hold `+` or `%`
+pub record ParsedSegment : Type 0 where
+  pub segment : Segment
+  pub escaped : Bool
 
 -- the number that ASCII digits write
 abbrev pub number : List ℕ → ℕ
@@ -30,9 +30,9 @@ is_index (b ∷ raw) = list_all (is_between 48 57) (b ∷ raw) && nat_le (number
 abbrev pub segment_of : List ℕ → Segment
 segment_of raw = if is_index raw then Int (number raw) else Str (decoded raw)
 
--- the segment of raw bytes, with its mark
-abbrev pub marked_segment_of : List ℕ → MarkedSegment
-marked_segment_of raw = record { seg = segment_of raw; mark = is_marked raw }
+-- the segment of raw bytes, and whether they hold an escape
+abbrev pub parsed_segment_of : List ℕ → ParsedSegment
+parsed_segment_of raw = record { segment = segment_of raw; escaped = has_escape raw }
 
 -- the decimal digits, or the bytes
 abbrev pub segment_text : Segment → List ℕ

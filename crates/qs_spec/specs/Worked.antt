@@ -51,12 +51,12 @@ ReadsOrNothing config shape tree (Some d) = ReadsBy config shape tree d
 -- the input has a tree, and this is what the shape reads from it
 pub record IsRead (config : Config) (shape : Shape) (input : List ℕ) (answer : Option Data) : Type 0 where
   pub tree : Tree
-  pub is_tree : IsTree config.form config.max_depth input tree
+  pub is_tree : IsTree config.is_form config.max_depth input tree
   pub reads : ReadsOrNothing config shape tree answer
 
 -- the text of the entries before the first error, and that error if there is one
 pub record IsWritten (config : Config) (d : Data) (text : List ℕ) (error : Option EntryError) : Type 0 where
-  pub text_is : written config.form false (entries config d).entries ≡ text
+  pub text_is : written config.is_form false (entries config d).entries ≡ text
   pub error_is : (entries config d).error ≡ error
 
 -- the data is written as the text, and this is what the shape reads from it
@@ -66,13 +66,13 @@ pub record IsReadAs (config : Config) (shape : Shape) (d : Data) (text : List �
 
 -- this is the tree of the input, if it has one
 abbrev pub IsTreeOrNone : Config → List ℕ → Option Tree → Type 0
-IsTreeOrNone config input None = HasNoTree config.form config.max_depth input
-IsTreeOrNone config input (Some tree) = IsTree config.form config.max_depth input tree
+IsTreeOrNone config input None = HasNoTree config.is_form config.max_depth input
+IsTreeOrNone config input (Some tree) = IsTree config.is_form config.max_depth input tree
 
 -- The input has this tree, which isn't stable. What `any` reads from it is written as the text, which has the other tree, or none.
 pub record IsUnstable (config : Config) (input : List ℕ) (tree : Tree) (d : Data) (text : List ℕ) (other : Option Tree) : Type 0 where
-  pub is_tree : IsTree config.form config.max_depth input tree
-  pub unstable : is_stable config.form tree ≡ false
+  pub is_tree : IsTree config.is_form config.max_depth input tree
+  pub unstable : is_stable config.is_form tree ≡ false
   pub reads : ReadsBy config Shape.any tree d
   pub written : IsWritten config d text None
   pub again : IsTreeOrNone config text other

@@ -10,7 +10,7 @@ ghost use Rattle.qs_spec.specs.internal.WrittenEntries.{IsWritable, HasKey, entr
 
 /// The string of entries with paths, or of a single entry, is parsed as their pairs.
 pub fn written_entries_are_parsed()
-    ensures entries { (form : Bool) (depth : ℕ) (es : List Entry) → AllByRecursion (IsWritable form depth) es → AllByRecursion HasKey es
-        → ArePairs depth (tokens form (written form false es)) (map (entry_pair form) es) }
-    ensures single { (form : Bool) (depth : ℕ) (e : Entry) → IsWritable form depth e → ArePairs depth (tokens form (written form false (e ∷ []))) (entry_pair form e ∷ []) }
+    ensures entries { (is_form : Bool) (depth : ℕ) (es : List Entry) → AllByRecursion (IsWritable is_form depth) es → AllByRecursion HasKey es
+        → ArePairs depth (tokens is_form (written is_form false es)) (map (entry_pair is_form) es) }
+    ensures single { (is_form : Bool) (depth : ℕ) (e : Entry) → IsWritable is_form depth e → ArePairs depth (tokens is_form (written is_form false (e ∷ []))) (entry_pair is_form e ∷ []) }
 {}

@@ -6,7 +6,7 @@ ghost use Rattle.qs_spec.specs.Escape.{decoded, encoded};
 
 /// Decoding restores encoded bytes, in both modes.
 pub fn escapes_round_trip()
-    ensures { (form : Bool) (s : List ℕ) → AllByRecursion (λ b. b < 256) s → decoded (encoded form s) ≡ s }
+    ensures { (is_form : Bool) (s : List ℕ) → AllByRecursion (λ b. b < 256) s → decoded (encoded is_form s) ≡ s }
 {}
 
 /// What some encoded strings are decoded to.
@@ -28,7 +28,7 @@ pub fn broken_escapes_stay()
 /// How some strings are escaped. The bytes 195 and 169 are the letter é.
 pub fn encoded_texts()
     ensures query { encoded false (codes "100% a+b") ≡ codes "100%25+a%2Bb" }
-    ensures form { encoded true (codes "100% a+b") ≡ codes "100%25%20a%2Bb" }
+    ensures is_form { encoded true (codes "100% a+b") ≡ codes "100%25%20a%2Bb" }
     ensures query_keeps { encoded false (codes "hello, world!") ≡ codes "hello,+world!" }
     ensures form_escapes { encoded true (codes "hello, world!") ≡ codes "hello%2C%20world%21" }
     ensures letter_in_query { encoded false (195 ∷ 169 ∷ []) ≡ codes "%C3%A9" }

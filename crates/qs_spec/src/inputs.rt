@@ -72,8 +72,8 @@ pub fn nearly_empty_inputs()
     ensures no_key { IsTree false 5 (codes "=foo") (text_leaf (codes "foo")) }
 {}
 
-/// A key has the mark that it has in the first pair with that key. A string has the mark of its own bytes.
-pub fn marks_of_keys_and_texts()
+/// A key counts as escaped if it is in the first pair with that key. A string counts as escaped by its own bytes.
+pub fn escapes_in_keys_and_texts()
     ensures plain_first { IsTree false 5 (codes "a=1&%61=2") (mapping (entry (Str (codes "a")) false (text_leaves (codes "1" ∷ codes "2" ∷ [])) no_entries)) }
     ensures escaped_first { IsTree false 5 (codes "%61=1&a=2") (mapping (entry (Str (codes "a")) true (text_leaves (codes "1" ∷ codes "2" ∷ [])) no_entries)) }
     ensures text { IsTree false 5 (codes "a=%2B+") (only (codes "a") (leaf (Text (codes "+ ") true))) }

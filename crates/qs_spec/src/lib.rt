@@ -20,7 +20,7 @@ pub use escapes::{
     broken_escapes_stay, decoded_texts, encoded_texts, escapes_round_trip, kept_bytes,
 };
 pub use inputs::{
-    brackets_in_form_mode, deep_keys, indices_and_texts, marks_of_keys_and_texts,
+    brackets_in_form_mode, deep_keys, escapes_in_keys_and_texts, indices_and_texts,
     nearly_empty_inputs, repeated_keys, values_beside_maps,
 };
 pub use keys::{

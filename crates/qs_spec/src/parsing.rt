@@ -2,7 +2,7 @@
 
 ghost use Rattle.std.specs.Prelude.{◌≡◌, ◌↔◌, ℕ, List, ◌∷◌, Some, IsFalse};
 ghost use Rattle.qs_spec.specs.Token.{Token};
-ghost use Rattle.qs_spec.specs.Token.Kind.{Amp};
+ghost use Rattle.qs_spec.specs.Token.TokenKind.{Amp};
 ghost use Rattle.qs_spec.specs.Grammar.{Pair, ArePairs, is_amp};
 ghost use Rattle.qs_spec.specs.internal.Parsing.{parsed_pairs, parsed_pair, and_pairs};
 

@@ -25,11 +25,11 @@ ghost use Rattle.qs_spec.specs.ReadBack.{IsPlainFor, IsReadBack, ArePathsApart, 
 /// that keeps entries with the same path in order.
 pub fn plain_data_are_read_back()
     ensures any_order { (config : Config) (shape : Shape) (d : Data) (es : List Entry) → config.array_format ≡ indexed → is_distinct shape ≡ true → IsPlainFor config shape d
-        → IsPermutation (entries config d).entries es → IsReadBack config shape d (written config.form false es) }
+        → IsPermutation (entries config d).entries es → IsReadBack config shape d (written config.is_form false es) }
     ensures lists_in_order { (config : Config) (shape : Shape) (d : Data) (es : List Entry) → is_distinct shape ≡ true → IsPlainFor config shape d → is_listed config.array_format false d ≡ true
-        → KeepsPaths (entries config d).entries es → IsReadBack config shape d (written config.form false es) }
+        → KeepsPaths (entries config d).entries es → IsReadBack config shape d (written config.is_form false es) }
     ensures lists_by_place { (config : Config) (shape : Shape) (d : Data) (es : List Entry) → is_distinct shape ≡ true → IsPlainFor config shape d → is_listed config.array_format false d ≡ true
-        → KeepsPlaces (entries config d).entries es → IsReadBack config shape d (written config.form false es) }
+        → KeepsPlaces (entries config d).entries es → IsReadBack config shape d (written config.is_form false es) }
 {}
 
 /// Writing loses nothing: two pieces of plain data that fit one shape are the same if their entries are, in any order. In the formats
@@ -42,16 +42,16 @@ pub fn writing_loses_nothing()
 {}
 
 /// If the shape `any` reads data from a stable tree, and the data is written without an error in the indexed format, its entries in
-/// any order have that tree again, ignoring marks.
+/// any order have that tree again, ignoring escapes.
 pub fn stable_trees_come_back()
-    ensures { (config : Config) (input : List ℕ) (t : Tree) (d : Data) (es : List Entry) → config.array_format ≡ indexed → IsTree config.form config.max_depth input t → is_stable config.form t ≡ true
-        → ReadsBy config Shape.any t d → (entries config d).error ≡ None → IsPermutation (entries config d).entries es → AreEquivalent config.form config.max_depth input (written config.form false es) }
+    ensures { (config : Config) (input : List ℕ) (t : Tree) (d : Data) (es : List Entry) → config.array_format ≡ indexed → IsTree config.is_form config.max_depth input t → is_stable config.is_form t ≡ true
+        → ReadsBy config Shape.any t d → (entries config d).error ≡ None → IsPermutation (entries config d).entries es → AreEquivalent config.is_form config.max_depth input (written config.is_form false es) }
 {}
 
 /// In the indexed format no entry's path, in plain data, begins with another entry's path. This also holds for the entries before an
 /// error.
 pub fn entries_are_apart()
-    ensures { (config : Config) (d : Data) → config.array_format ≡ indexed → is_plain config.form d ≡ true → ArePathsApart (entries config d).entries }
+    ensures { (config : Config) (d : Data) → config.array_format ≡ indexed → is_plain config.is_form d ≡ true → ArePathsApart (entries config d).entries }
 {}
 
 /// Data whose names and keys are digits, spaces and separators: plain, fitting, and written without an error.

@@ -15,7 +15,7 @@ pub fn depth_limit()
     ensures beyond { IsWritten (record default { max_depth = 1 })
         (Data.struct (members_of ((codes "a", Data.unsigned 1) ∷ (codes "b", Data.sequence (values_of (Data.unsigned 2 ∷ Data.unsigned 3 ∷ []))) ∷ (codes "c", Data.sequence (values_of (Data.sequence (values_of (Data.unsigned 4 ∷ [])) ∷ []))) ∷ [])))
         (codes "a=1&b[0]=2&b[1]=3") (Some too_deep) }
-    ensures in_form_mode { IsWritten (record default { form = true }) (struct_with (codes "a") (Data.sequence (values_of (Data.text (codes "x y!") ∷ [])))) (codes "a%5B0%5D=x%20y%21") None }
+    ensures in_form_mode { IsWritten (record default { is_form = true }) (struct_with (codes "a") (Data.sequence (values_of (Data.text (codes "x y!") ∷ [])))) (codes "a%5B0%5D=x%20y%21") None }
     ensures nothing_after { IsWritten (record default { max_depth = 1 })
         (Data.struct (members_of ((codes "a", Data.unsigned 1) ∷ (codes "c", Data.sequence (values_of (Data.sequence (values_of (Data.unsigned 4 ∷ [])) ∷ []))) ∷ (codes "b", Data.unsigned 2) ∷ [])))
         (codes "a=1") (Some too_deep) }

@@ -66,7 +66,7 @@ piece_alike piece = (
   λ h. covers_piece piece ∙ ap₂ (λ x y. x || y) ((name_alike (name_bytes piece)).0 h.name) ((alike (value_bytes piece)).0 (sym (leaf_decoded piece) ∙ sym h.value)),
   λ h.
       let g = or_both (covers_encoded (name_bytes piece)) (covers_encoded (value_bytes piece)) (sym (covers_piece piece) ∙ h) in
-      record { direct = refl; name = (name_alike (name_bytes piece)).1 g.0; value = sym (leaf_decoded piece ∙ (alike (value_bytes piece)).1 g.1) },
+      record { assigned = refl; name = (name_alike (name_bytes piece)).1 g.0; value = sym (leaf_decoded piece ∙ (alike (value_bytes piece)).1 g.1) },
 )
 
 pieces_alike : (pieces : List (List ℕ)) → AreNamed (map name_value pieces) (map piece_pair pieces) ↔ (list_any covers_encoded pieces ≡ false)
@@ -81,6 +81,6 @@ named_pieces input =
     let h = pieces_alike (filter isnt_empty (split input)) in
     (λ n. covers_pieces input ∙ h.0 n, λ c. h.1 (sym (covers_pieces input) ∙ c))
 
-pub named_alike : (form : Bool) (input : List ℕ) (pairs : List Pair) → ArePairs 0 (tokens form input) pairs → AreNamed (form_parsed input) pairs ↔ (covers_encoded input ≡ false)
-named_alike form input pairs h =
-    subst (λ (ps : List Pair). AreNamed (form_parsed input) ps ↔ (covers_encoded input ≡ false)) (sym ((pieces_alone form input pairs).0 h)) (named_pieces input)
+pub named_alike : (is_form : Bool) (input : List ℕ) (pairs : List Pair) → ArePairs 0 (tokens is_form input) pairs → AreNamed (form_parsed input) pairs ↔ (covers_encoded input ≡ false)
+named_alike is_form input pairs h =
+    subst (λ (ps : List Pair). AreNamed (form_parsed input) ps ↔ (covers_encoded input ≡ false)) (sym ((pieces_alone is_form input pairs).0 h)) (named_pieces input)

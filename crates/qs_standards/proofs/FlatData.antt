@@ -62,12 +62,12 @@ flat_named : (ns : List NameValue) → map entry_named (map flat_entry ns) ≡ n
 flat_named [] = refl
 flat_named (n ∷ ns) = ap₂ (λ (name : List ℕ) (l : List NameValue). record { name = name; value = n.value } ∷ l) (append-nil n.name) (flat_named ns)
 
-flat_form : (form : Bool) (ns : List NameValue) → AreNamesOfBytes ns → form_parsed (written form false (map flat_entry ns)) ≡ ns
-flat_form form ns h = forms form (map flat_entry ns) (flat_bytes ns h) (flat_writes ns) ∙ flat_named ns
+flat_form : (is_form : Bool) (ns : List NameValue) → AreNamesOfBytes ns → form_parsed (written is_form false (map flat_entry ns)) ≡ ns
+flat_form is_form ns h = forms is_form (map flat_entry ns) (flat_bytes ns h) (flat_writes ns) ∙ flat_named ns
 
-pub struct_form : (config : Config) (ns : List NameValue) → AreNamesOfBytes ns → form_parsed (written config.form false (entries config (text_struct ns)).entries) ≡ ns
-struct_form config ns h = ap (λ (o : Output). form_parsed (written config.form false o.entries)) (struct_flat config ns) ∙ flat_form config.form ns h
+pub struct_form : (config : Config) (ns : List NameValue) → AreNamesOfBytes ns → form_parsed (written config.is_form false (entries config (text_struct ns)).entries) ≡ ns
+struct_form config ns h = ap (λ (o : Output). form_parsed (written config.is_form false o.entries)) (struct_flat config ns) ∙ flat_form config.is_form ns h
 
-pub map_form : (config : Config) (ns : List NameValue) → ns ≢ [] → AreNamesOfBytes ns → form_parsed (written config.form false (entries config (text_map ns)).entries) ≡ ns
+pub map_form : (config : Config) (ns : List NameValue) → ns ≢ [] → AreNamesOfBytes ns → form_parsed (written config.is_form false (entries config (text_map ns)).entries) ≡ ns
 map_form config [] s h = absurd (s refl)
-map_form config (n ∷ ns) s h = ap (λ (o : Output). form_parsed (written config.form false o.entries)) (map_flat config n ns) ∙ flat_form config.form (n ∷ ns) h
+map_form config (n ∷ ns) s h = ap (λ (o : Output). form_parsed (written config.is_form false o.entries)) (map_flat config n ns) ∙ flat_form config.is_form (n ∷ ns) h

@@ -16,9 +16,9 @@ pub reads_both : (input : List ℕ) (ns : List NameValue) (t : Tree) → form_pa
 reads_both input ns t e f g = record { parsed = e; in_query_mode = is_tree false 0 input t f; in_form_mode = is_tree true 0 input t g }
 
 -- what a map of one leaf holds
-pub one_held : (n : NameValue) (key : Segment) (mark : Bool) (l : Leaf) → HoldsNamed (n ∷ []) (one_leaf key mark l) → HasName n.name key × (n.value ≡ leaf_text l)
-one_held n key mark l h = by h.0 (perm_all (λ m. m ≡ n) (Perm-from (n ∷ []) h.0 h.1) (refl, tt)) h.2
+pub one_held : (n : NameValue) (key : Segment) (escaped : Bool) (l : Leaf) → HoldsNamed (n ∷ []) (one_leaf key escaped l) → HasName n.name key × (n.value ≡ leaf_text l)
+one_held n key escaped l h = by h.0 (perm_all (λ m. m ≡ n) (Perm-from (n ∷ []) h.0 h.1) (refl, tt)) h.2
   where
-    by : (sorted : List NameValue) → AllByRecursion (λ m. m ≡ n) sorted → AreEntries sorted (entry key mark (leaf l) no_entries) → HasName n.name key × (n.value ≡ leaf_text l)
+    by : (sorted : List NameValue) → AllByRecursion (λ m. m ≡ n) sorted → AreEntries sorted (entry key escaped (leaf l) no_entries) → HasName n.name key × (n.value ≡ leaf_text l)
     by [] e a = absurd a
     by (m ∷ ms) e a = (subst (λ (x : NameValue). HasName x.name key) e.0 a.0, sym (ap (λ (x : NameValue). x.value) e.0) ∙ a.1)

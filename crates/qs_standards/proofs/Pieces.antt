@@ -1,12 +1,12 @@
 -- Without depth, an input is the pairs of the standard's pieces.
 use Rattle.std.proofs.Common.{◌≡◌, ◌↔◌, ℕ, Bool, true, false, cond, not, ◌&&◌, ◌||◌, ◌==◌, List, [], ◌∷◌, ◌++◌, map, refl, sym, ap, ap₂, ◌∙◌, subst, append-nil}
 use Rattle.std.specs.List.{list_all, filter}
-use Rattle.qs_spec.specs.Token.{Kind, Token, tokens, byte_kind, byte_token, is_escaped_bracket, raw_of}
-use Rattle.qs_spec.specs.Token.Kind.{Amp, Equals, Open, Close, Other}
-use Rattle.qs_spec.specs.Segment.{MarkedSegment, marked_segment_of}
+use Rattle.qs_spec.specs.Token.{TokenKind, Token, tokens, byte_kind, byte_token, is_escaped_bracket, raw_of}
+use Rattle.qs_spec.specs.Token.TokenKind.{Amp, Equals, Open, Close, Other}
+use Rattle.qs_spec.specs.Segment.{ParsedSegment, parsed_segment_of}
 use Rattle.qs_spec.specs.Leaf.{Leaf, value_leaf}
 use Rattle.qs_spec.specs.Leaf.Leaf.{NoValue}
-use Rattle.qs_spec.specs.Grammar.{Pair, direct, is_amp, is_equals, ends_last, IsRun, root, IsValue, IsPair, IsEnd, ArePairs}
+use Rattle.qs_spec.specs.Grammar.{Pair, assigned, is_amp, is_equals, ends_last, IsRun, root, IsValue, IsPair, IsEnd, ArePairs}
 use Rattle.qs_spec.proofs.Booleans.{and_both, or_both, not_of}
 use Rattle.qs_spec.proofs.RelatedIsParsed.{one_list}
 use Rattle.qs_standards.specs.FormUrlencoded.{before_first, split, isnt_empty, name_bytes}
@@ -59,21 +59,21 @@ last_digit e h = by (e == 66) refl h
     by true d h = is_at e 66 d refl
     by false d h = is_at e 68 h refl
 
-tokens_spell : (form : Bool) (bytes : List ℕ) → Spells (tokens form bytes) bytes
-tokens_spell form [] = Spells.none
-tokens_spell form (b ∷ []) = Spells.byte b Spells.none
-tokens_spell form (b ∷ c ∷ []) = Spells.byte b (Spells.byte c Spells.none)
-tokens_spell form (b ∷ c ∷ e ∷ rest) = by (form && is_escaped_bracket b c e) refl (tokens_spell form rest) (tokens_spell form (c ∷ e ∷ rest))
+tokens_spell : (is_form : Bool) (bytes : List ℕ) → Spells (tokens is_form bytes) bytes
+tokens_spell is_form [] = Spells.none
+tokens_spell is_form (b ∷ []) = Spells.byte b Spells.none
+tokens_spell is_form (b ∷ c ∷ []) = Spells.byte b (Spells.byte c Spells.none)
+tokens_spell is_form (b ∷ c ∷ e ∷ rest) = by (is_form && is_escaped_bracket b c e) refl (tokens_spell is_form rest) (tokens_spell is_form (c ∷ e ∷ rest))
   where
-    by : (x : Bool) → (form && is_escaped_bracket b c e) ≡ x → Spells (tokens form rest) rest → Spells (tokens form (c ∷ e ∷ rest)) (c ∷ e ∷ rest)
-        → Spells (cond x (record { kind = cond (e == 66) Open Close; raw = b ∷ c ∷ e ∷ [] } ∷ tokens form rest) (byte_token b ∷ tokens form (c ∷ e ∷ rest))) (b ∷ c ∷ e ∷ rest)
+    by : (x : Bool) → (is_form && is_escaped_bracket b c e) ≡ x → Spells (tokens is_form rest) rest → Spells (tokens is_form (c ∷ e ∷ rest)) (c ∷ e ∷ rest)
+        → Spells (cond x (record { kind = cond (e == 66) Open Close; raw = b ∷ c ∷ e ∷ [] } ∷ tokens is_form rest) (byte_token b ∷ tokens is_form (c ∷ e ∷ rest))) (b ∷ c ∷ e ∷ rest)
     by false h s t = Spells.byte b t
     by true h s t =
-        let g = and_both (b == 37 && c == 53) (e == 66 || e == 68) (and_both form (is_escaped_bracket b c e) h).1 in
+        let g = and_both (b == 37 && c == 53) (e == 66 || e == 68) (and_both is_form (is_escaped_bracket b c e) h).1 in
         let f = and_both (b == 37) (c == 53) g.0 in
         Spells.bracket (record { kind = cond (e == 66) Open Close; raw = b ∷ c ∷ e ∷ [] }) b c e (bracket_kind (e == 66)) refl (is_at b 37 f.0 refl) (is_at c 53 f.1 refl) (last_digit e g.1) s
 
-run_more : (ends : Kind → Bool) (t : Token) (run : List Token) → ends t.kind ≡ false → IsRun ends run → IsRun ends (t ∷ run)
+run_more : (ends : TokenKind → Bool) (t : Token) (run : List Token) → ends t.kind ≡ false → IsRun ends run → IsRun ends (t ∷ run)
 run_more ends t run e h = ap (λ b. not b && list_all (λ t. not (ends t.kind)) run) e ∙ h
 
 -- the raw bytes of tokens that spell
@@ -104,7 +104,7 @@ keyed_more t b raw bytes ts k r n l h =
       run = run_more ends_last t h.key k h.run;
       is = subst (IsValue h.value) (sym l) h.is;
       raw = w ∙ sym n;
-      roots = ap (λ l. marked_segment_of l ∷ []) w ∙ sym (ap name_path n);
+      roots = ap (λ l. parsed_segment_of l ∷ []) w ∙ sym (ap name_path n);
     }
 
 name_step : (b : ℕ) (bytes : List ℕ) → is_separator b ≡ false → name_bytes (b ∷ bytes) ≡ b ∷ name_bytes bytes
@@ -150,15 +150,15 @@ keyed (Spells.bracket {ts} {bytes} t b c e k r p q u s) a =
 -- they are a pair
 pair_of : (t : Token) (ts : List Token) (bytes : List ℕ) → IsKeyed (t ∷ ts) bytes → IsPair 0 (t ∷ ts) (piece_pair bytes)
 pair_of t ts bytes k =
-    subst (λ (p : List MarkedSegment). IsPair 0 (t ∷ ts) (direct p (piece_leaf bytes))) k.roots
-    (subst (λ (l : List Token). IsPair 0 l (direct (root k.key) (piece_leaf bytes))) (sym k.whole) (by k.key k.value (piece_leaf bytes) k.run k.is k.whole))
+    subst (λ (p : List ParsedSegment). IsPair 0 (t ∷ ts) (assigned p (piece_leaf bytes))) k.roots
+    (subst (λ (l : List Token). IsPair 0 l (assigned (root k.key) (piece_leaf bytes))) (sym k.whole) (by k.key k.value (piece_leaf bytes) k.run k.is k.whole))
   where
-    by : (key value : List Token) (leaf : Leaf) → IsRun ends_last key → IsValue value leaf → t ∷ ts ≡ key ++ value → IsPair 0 (key ++ value) (direct (root key) leaf)
+    by : (key value : List Token) (leaf : Leaf) → IsRun ends_last key → IsValue value leaf → t ∷ ts ≡ key ++ value → IsPair 0 (key ++ value) (assigned (root key) leaf)
     by [] _ _ r IsValue.none w = absurd (nothing w)
       where
         nothing : t ∷ ts ≡ [] → ⊥
         nothing w = cc
-    by (u ∷ key) _ _ r IsValue.none w = subst (λ (l : List Token). IsPair 0 l (direct (root (u ∷ key)) NoValue)) (sym (append-nil (u ∷ key))) (IsPair.name r)
+    by (u ∷ key) _ _ r IsValue.none w = subst (λ (l : List Token). IsPair 0 l (assigned (root (u ∷ key)) NoValue)) (sym (append-nil (u ∷ key))) (IsPair.name r)
     by key _ _ r (IsValue.some {t} {v} e q) w = IsPair.value t key v r (IsValue.some e q)
 
 -- tokens in front of others, which are the pairs of these pieces
@@ -236,11 +236,11 @@ cut_of (Spells.bracket {ts} {bytes} t b c e k r p q u s) =
       pairs = m.pairs;
     }
 
-pub are_pairs : (form : Bool) (input : List ℕ) → ArePairs 0 (tokens form input) (piece_pairs input)
-are_pairs form input = joined (cut_of (tokens_spell form input))
+pub are_pairs : (is_form : Bool) (input : List ℕ) → ArePairs 0 (tokens is_form input) (piece_pairs input)
+are_pairs is_form input = joined (cut_of (tokens_spell is_form input))
 
-pub pieces_alone : (form : Bool) (input : List ℕ) (pairs : List Pair) → ArePairs 0 (tokens form input) pairs ↔ (pairs ≡ piece_pairs input)
-pieces_alone form input pairs = (
-  λ h. one_list 0 (tokens form input) pairs (piece_pairs input) h (are_pairs form input),
-  λ e. subst (λ (ps : List Pair). ArePairs 0 (tokens form input) ps) (sym e) (are_pairs form input),
+pub pieces_alone : (is_form : Bool) (input : List ℕ) (pairs : List Pair) → ArePairs 0 (tokens is_form input) pairs ↔ (pairs ≡ piece_pairs input)
+pieces_alone is_form input pairs = (
+  λ h. one_list 0 (tokens is_form input) pairs (piece_pairs input) h (are_pairs is_form input),
+  λ e. subst (λ (ps : List Pair). ArePairs 0 (tokens is_form input) ps) (sym e) (are_pairs is_form input),
 )

@@ -24,7 +24,7 @@ is_back b (x ∷ []) = not (x == 37) && plus_to_space x == b
 is_back b (x ∷ y ∷ z ∷ []) = (x == 37 && (is_digit y 16 && is_digit z 16)) && (16 * digit_value y + digit_value z) == b
 is_back b _ = false
 
-backs : (form : Bool) (b : ℕ) → b < 256 → is_back b (encoded_byte form b) ≡ true
+backs : (is_form : Bool) (b : ℕ) → b < 256 → is_back b (encoded_byte is_form b) ≡ true
 backs true b l = agree_below_at (λ b. is_back b (encoded_byte true b)) (λ b. true) 256 b refl l
 backs false b l = agree_below_at (λ b. is_back b (encoded_byte false b)) (λ b. true) 256 b refl l
 
@@ -41,32 +41,32 @@ one_back b (x ∷ y ∷ z ∷ []) rest h =
     escaped x y z rest p.0 d.0 d.1 ∙ ap (λ c. c ∷ form_decoded rest) (equal_of (16 * digit_value y + digit_value z) b g.1)
 one_back b (x ∷ y ∷ z ∷ w ∷ xs) rest h = cc
 
-encoded_back : (form : Bool) (s rest : List ℕ) → AreBytes s → form_decoded (encoded form s ++ rest) ≡ s ++ form_decoded rest
-encoded_back form [] rest h = refl
-encoded_back form (b ∷ s) rest h =
-    ap form_decoded (append_assoc (encoded_byte form b) (encoded form s) rest) ∙ one_back b (encoded_byte form b) (encoded form s ++ rest) (backs form b h.0) ∙ ap (λ l. b ∷ l) (encoded_back form s rest h.1)
+encoded_back : (is_form : Bool) (s rest : List ℕ) → AreBytes s → form_decoded (encoded is_form s ++ rest) ≡ s ++ form_decoded rest
+encoded_back is_form [] rest h = refl
+encoded_back is_form (b ∷ s) rest h =
+    ap form_decoded (append_assoc (encoded_byte is_form b) (encoded is_form s) rest) ∙ one_back b (encoded_byte is_form b) (encoded is_form s ++ rest) (backs is_form b h.0) ∙ ap (λ l. b ∷ l) (encoded_back is_form s rest h.1)
 
-open_back : (form : Bool) (rest : List ℕ) → form_decoded (open_bytes form ++ rest) ≡ 91 ∷ form_decoded rest
+open_back : (is_form : Bool) (rest : List ℕ) → form_decoded (open_bytes is_form ++ rest) ≡ 91 ∷ form_decoded rest
 open_back true rest = escaped 37 53 66 rest refl refl refl
 open_back false rest = kept 91 rest refl
 
-close_back : (form : Bool) (rest : List ℕ) → form_decoded (close_bytes form ++ rest) ≡ 93 ∷ form_decoded rest
+close_back : (is_form : Bool) (rest : List ℕ) → form_decoded (close_bytes is_form ++ rest) ≡ 93 ∷ form_decoded rest
 close_back true rest = escaped 37 53 68 rest refl refl refl
 close_back false rest = kept 93 rest refl
 
-brackets_back : (form : Bool) (path : Path) → AllByRecursion AreBytes path → form_decoded (brackets_text form path) ≡ in_brackets path
-brackets_back form [] h = refl
-brackets_back form (s ∷ path) h =
-    let tail = close_bytes form ++ brackets_text form path in
-    open_back form (encoded form s ++ tail) ∙ ap (λ l. 91 ∷ l) (encoded_back form s tail h.0 ∙ ap (λ l. s ++ l) (close_back form (brackets_text form path) ∙ ap (λ l. 93 ∷ l) (brackets_back form path h.1)))
+brackets_back : (is_form : Bool) (path : Path) → AllByRecursion AreBytes path → form_decoded (brackets_text is_form path) ≡ in_brackets path
+brackets_back is_form [] h = refl
+brackets_back is_form (s ∷ path) h =
+    let tail = close_bytes is_form ++ brackets_text is_form path in
+    open_back is_form (encoded is_form s ++ tail) ∙ ap (λ l. 91 ∷ l) (encoded_back is_form s tail h.0 ∙ ap (λ l. s ++ l) (close_back is_form (brackets_text is_form path) ∙ ap (λ l. 93 ∷ l) (brackets_back is_form path h.1)))
 
-path_back : (form : Bool) (path : Path) → AllByRecursion AreBytes path → form_decoded (path_text form path) ≡ bracketed path
+path_back : (is_form : Bool) (path : Path) → AllByRecursion AreBytes path → form_decoded (path_text is_form path) ≡ bracketed path
 unfolding path_text
-path_back form [] h = refl
-path_back form (s ∷ path) h = encoded_back form s (brackets_text form path) h.0 ∙ ap (λ l. s ++ l) (brackets_back form path h.1)
+path_back is_form [] h = refl
+path_back is_form (s ∷ path) h = encoded_back is_form s (brackets_text is_form path) h.0 ∙ ap (λ l. s ++ l) (brackets_back is_form path h.1)
 
-value_back : (form : Bool) (v : List ℕ) → AreBytes v → form_decoded (encoded form v) ≡ v
-value_back form v h = ap form_decoded (sym (append-nil (encoded form v))) ∙ encoded_back form v [] h ∙ append-nil v
+value_back : (is_form : Bool) (v : List ℕ) → AreBytes v → form_decoded (encoded is_form v) ≡ v
+value_back is_form v h = ap form_decoded (sym (append-nil (encoded is_form v))) ∙ encoded_back is_form v [] h ∙ append-nil v
 
 -- ---- separators
 
@@ -83,33 +83,33 @@ AreAll test xs = list_all test xs ≡ true
 join : (test : ℕ → Bool) (xs ys : List ℕ) → AreAll test xs → AreAll test ys → AreAll test (xs ++ ys)
 join test xs ys h i = list_all-append test xs ys ∙ ap₂ (λ a b. a && b) h i
 
-byte_clean : (form : Bool) (b : ℕ) → b < 256 → AreAll is_clean (encoded_byte form b)
+byte_clean : (is_form : Bool) (b : ℕ) → b < 256 → AreAll is_clean (encoded_byte is_form b)
 byte_clean true b l = agree_below_at (λ b. list_all is_clean (encoded_byte true b)) (λ b. true) 256 b refl l
 byte_clean false b l = agree_below_at (λ b. list_all is_clean (encoded_byte false b)) (λ b. true) 256 b refl l
 
-encoded_clean : (form : Bool) (s : List ℕ) → AreBytes s → AreAll is_clean (encoded form s)
-encoded_clean form [] h = refl
-encoded_clean form (b ∷ s) h = join is_clean (encoded_byte form b) (encoded form s) (byte_clean form b h.0) (encoded_clean form s h.1)
+encoded_clean : (is_form : Bool) (s : List ℕ) → AreBytes s → AreAll is_clean (encoded is_form s)
+encoded_clean is_form [] h = refl
+encoded_clean is_form (b ∷ s) h = join is_clean (encoded_byte is_form b) (encoded is_form s) (byte_clean is_form b h.0) (encoded_clean is_form s h.1)
 
-open_clean : (form : Bool) → AreAll is_clean (open_bytes form)
+open_clean : (is_form : Bool) → AreAll is_clean (open_bytes is_form)
 open_clean true = refl
 open_clean false = refl
 
-close_clean : (form : Bool) → AreAll is_clean (close_bytes form)
+close_clean : (is_form : Bool) → AreAll is_clean (close_bytes is_form)
 close_clean true = refl
 close_clean false = refl
 
-brackets_clean : (form : Bool) (path : Path) → AllByRecursion AreBytes path → AreAll is_clean (brackets_text form path)
-brackets_clean form [] h = refl
-brackets_clean form (s ∷ path) h =
-    join is_clean (open_bytes form) (encoded form s ++ (close_bytes form ++ brackets_text form path)) (open_clean form)
-    (join is_clean (encoded form s) (close_bytes form ++ brackets_text form path) (encoded_clean form s h.0)
-    (join is_clean (close_bytes form) (brackets_text form path) (close_clean form) (brackets_clean form path h.1)))
+brackets_clean : (is_form : Bool) (path : Path) → AllByRecursion AreBytes path → AreAll is_clean (brackets_text is_form path)
+brackets_clean is_form [] h = refl
+brackets_clean is_form (s ∷ path) h =
+    join is_clean (open_bytes is_form) (encoded is_form s ++ (close_bytes is_form ++ brackets_text is_form path)) (open_clean is_form)
+    (join is_clean (encoded is_form s) (close_bytes is_form ++ brackets_text is_form path) (encoded_clean is_form s h.0)
+    (join is_clean (close_bytes is_form) (brackets_text is_form path) (close_clean is_form) (brackets_clean is_form path h.1)))
 
-path_clean : (form : Bool) (path : Path) → AllByRecursion AreBytes path → AreAll is_clean (path_text form path)
+path_clean : (is_form : Bool) (path : Path) → AllByRecursion AreBytes path → AreAll is_clean (path_text is_form path)
 unfolding path_text
-path_clean form [] h = refl
-path_clean form (s ∷ path) h = join is_clean (encoded form s) (brackets_text form path) (encoded_clean form s h.0) (brackets_clean form path h.1)
+path_clean is_form [] h = refl
+path_clean is_form (s ∷ path) h = join is_clean (encoded is_form s) (brackets_text is_form path) (encoded_clean is_form s h.0) (brackets_clean is_form path h.1)
 
 neither : (b : ℕ) → not (is_separator b) ≡ true → ((b == 38) ≡ false) × ((b == 61) ≡ false)
 neither b h = by (b == 38) (b == 61) h
@@ -155,31 +155,31 @@ split_front (x ∷ xs) ys h =
 -- ---- entries
 
 abbrev text_of : Bool → Entry → List ℕ
-text_of form e = path_text form e.path ++ value_text form e.value
+text_of is_form e = path_text is_form e.path ++ value_text is_form e.value
 
-text_free : (form : Bool) (e : Entry) → IsOfBytes e → AreAll is_free (text_of form e)
-text_free form e h = join is_free (path_text form e.path) (value_text form e.value) (clean_free (path_text form e.path) (path_clean form e.path h.0)) (by e.value h.1)
+text_free : (is_form : Bool) (e : Entry) → IsOfBytes e → AreAll is_free (text_of is_form e)
+text_free is_form e h = join is_free (path_text is_form e.path) (value_text is_form e.value) (clean_free (path_text is_form e.path) (path_clean is_form e.path h.0)) (by e.value h.1)
   where
-    by : (v : Option (List ℕ)) → AreBytes (value_or_empty v) → AreAll is_free (value_text form v)
+    by : (v : Option (List ℕ)) → AreBytes (value_or_empty v) → AreAll is_free (value_text is_form v)
     by None h = refl
-    by (Some v) h = clean_free (encoded form v) (encoded_clean form v h)
+    by (Some v) h = clean_free (encoded is_form v) (encoded_clean is_form v h)
 
-text_named : (form : Bool) (e : Entry) → IsOfBytes e → name_value (text_of form e) ≡ entry_named e
-text_named form e h = by e.value h.1
+text_named : (is_form : Bool) (e : Entry) → IsOfBytes e → name_value (text_of is_form e) ≡ entry_named e
+text_named is_form e h = by e.value h.1
   where
-    clean : AreAll is_clean (path_text form e.path)
-    clean = path_clean form e.path h.0
+    clean : AreAll is_clean (path_text is_form e.path)
+    clean = path_clean is_form e.path h.0
 
-    by : (v : Option (List ℕ)) → AreBytes (value_or_empty v) → name_value (path_text form e.path ++ value_text form v) ≡ record { name = bracketed e.path; value = value_or_empty v }
+    by : (v : Option (List ℕ)) → AreBytes (value_or_empty v) → name_value (path_text is_form e.path ++ value_text is_form v) ≡ record { name = bracketed e.path; value = value_or_empty v }
     by None i =
-        let w = append-nil (path_text form e.path) in
-        let k = key_alone (path_text form e.path) clean in
-        ap name_value w ∙ ap₂ named (ap form_decoded k.0 ∙ path_back form e.path h.0) (ap form_decoded k.1)
+        let w = append-nil (path_text is_form e.path) in
+        let k = key_alone (path_text is_form e.path) clean in
+        ap name_value w ∙ ap₂ named (ap form_decoded k.0 ∙ path_back is_form e.path h.0) (ap form_decoded k.1)
     by (Some v) i =
-        let k = key_value (path_text form e.path) (encoded form v) clean in
-        ap₂ named (ap form_decoded k.0 ∙ path_back form e.path h.0) (ap form_decoded k.1 ∙ value_back form v i)
+        let k = key_value (path_text is_form e.path) (encoded is_form v) clean in
+        ap₂ named (ap form_decoded k.0 ∙ path_back is_form e.path h.0) (ap form_decoded k.1 ∙ value_back is_form v i)
 
-byte_some : (form : Bool) (b : ℕ) → b < 256 → isnt_empty (encoded_byte form b) ≡ true
+byte_some : (is_form : Bool) (b : ℕ) → b < 256 → isnt_empty (encoded_byte is_form b) ≡ true
 byte_some true b l = agree_below_at (λ b. isnt_empty (encoded_byte true b)) (λ b. true) 256 b refl l
 byte_some false b l = agree_below_at (λ b. isnt_empty (encoded_byte false b)) (λ b. true) 256 b refl l
 
@@ -191,16 +191,16 @@ some_middle : (xs : List ℕ) (y : ℕ) (ys : List ℕ) → isnt_empty (xs ++ y 
 some_middle [] y ys = refl
 some_middle (x ∷ xs) y ys = refl
 
-text_some : (form : Bool) (path : Path) (v : Option (List ℕ)) → AllByRecursion AreBytes path → WritesAny path v → isnt_empty (path_text form path ++ value_text form v) ≡ true
+text_some : (is_form : Bool) (path : Path) (v : Option (List ℕ)) → AllByRecursion AreBytes path → WritesAny path v → isnt_empty (path_text is_form path ++ value_text is_form v) ≡ true
 unfolding path_text
-text_some form [] v h w = absurd w
-text_some form (s ∷ path) (Some v) h w = some_middle (encoded form s ++ brackets_text form path) 61 (encoded form v)
-text_some form ((b ∷ s) ∷ path) None h w =
-    some_front (encoded form (b ∷ s) ++ brackets_text form path) [] (some_front (encoded form (b ∷ s)) (brackets_text form path) (some_front (encoded_byte form b) (encoded form s) (byte_some form b h.0.0)))
-text_some form ([] ∷ []) None h w = absurd w
-text_some form ([] ∷ s ∷ path) None h w = some_front (brackets_text form (s ∷ path)) [] (open_some form)
+text_some is_form [] v h w = absurd w
+text_some is_form (s ∷ path) (Some v) h w = some_middle (encoded is_form s ++ brackets_text is_form path) 61 (encoded is_form v)
+text_some is_form ((b ∷ s) ∷ path) None h w =
+    some_front (encoded is_form (b ∷ s) ++ brackets_text is_form path) [] (some_front (encoded is_form (b ∷ s)) (brackets_text is_form path) (some_front (encoded_byte is_form b) (encoded is_form s) (byte_some is_form b h.0.0)))
+text_some is_form ([] ∷ []) None h w = absurd w
+text_some is_form ([] ∷ s ∷ path) None h w = some_front (brackets_text is_form (s ∷ path)) [] (open_some is_form)
   where
-    open_some : (form : Bool) → isnt_empty (brackets_text form (s ∷ path)) ≡ true
+    open_some : (is_form : Bool) → isnt_empty (brackets_text is_form (s ∷ path)) ≡ true
     open_some true = refl
     open_some false = refl
 
@@ -216,13 +216,13 @@ before text rest n f s e =
     ap (λ (l : List (List ℕ)). map name_value (filter isnt_empty l)) (split_front text rest f) ∙ ap (λ x. map name_value (cond x (text ∷ filter isnt_empty (split rest)) (filter isnt_empty (split rest)))) s
     ∙ ap (λ x. x ∷ form_parsed rest) e
 
-pub forms : (form : Bool) (es : List Entry) → AllByRecursion IsOfBytes es → AllByRecursion Writes es → form_parsed (written form false es) ≡ map entry_named es
+pub forms : (is_form : Bool) (es : List Entry) → AllByRecursion IsOfBytes es → AllByRecursion Writes es → form_parsed (written is_form false es) ≡ map entry_named es
 unfolding written
-forms form [] h w = refl
-forms form (e ∷ []) h w =
-    ap form_parsed (text_of_first form e [] (keyed e.path e.value w.0) ∙ append-nil (text_of form e))
-    ∙ alone (text_of form e) (entry_named e) (text_free form e h.0) (text_some form e.path e.value h.0.0 w.0) (text_named form e h.0)
-forms form (e ∷ f ∷ es) h w =
-    ap form_parsed (text_of_first form e (f ∷ es) (keyed e.path e.value w.0) ∙ ap (λ l. text_of form e ++ l) (text_of_next form f es (keyed f.path f.value w.1.0)))
-    ∙ before (text_of form e) (written form false (f ∷ es)) (entry_named e) (text_free form e h.0) (text_some form e.path e.value h.0.0 w.0) (text_named form e h.0)
-    ∙ ap (λ l. entry_named e ∷ l) (forms form (f ∷ es) h.1 w.1)
+forms is_form [] h w = refl
+forms is_form (e ∷ []) h w =
+    ap form_parsed (text_of_first is_form e [] (keyed e.path e.value w.0) ∙ append-nil (text_of is_form e))
+    ∙ alone (text_of is_form e) (entry_named e) (text_free is_form e h.0) (text_some is_form e.path e.value h.0.0 w.0) (text_named is_form e h.0)
+forms is_form (e ∷ f ∷ es) h w =
+    ap form_parsed (text_of_first is_form e (f ∷ es) (keyed e.path e.value w.0) ∙ ap (λ l. text_of is_form e ++ l) (text_of_next is_form f es (keyed f.path f.value w.1.0)))
+    ∙ before (text_of is_form e) (written is_form false (f ∷ es)) (entry_named e) (text_free is_form e h.0) (text_some is_form e.path e.value h.0.0 w.0) (text_named is_form e h.0)
+    ∙ ap (λ l. entry_named e ∷ l) (forms is_form (f ∷ es) h.1 w.1)

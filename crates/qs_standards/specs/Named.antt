@@ -1,7 +1,7 @@
 -- When pairs and trees of this notation hold the names and values that the URL Standard's parser returns.
 use Rattle.std.specs.Prelude.{◌≡◌, ℕ, Bool, false, not, List, [], ◌∷◌, IsTrue, IsFalse, IsPermutation, if◌then◌else◌, ⊤}
 use Rattle.std.specs.List.{AllByRecursion}
-use Rattle.qs_spec.specs.Segment.{Segment, MarkedSegment, number, is_index, is_same_segment}
+use Rattle.qs_spec.specs.Segment.{Segment, ParsedSegment, number, is_index, is_same_segment}
 use Rattle.qs_spec.specs.Segment.Segment.{Int, Str}
 use Rattle.qs_spec.specs.Leaf.{leaf_text}
 use Rattle.qs_spec.specs.Grammar.{Pair}
@@ -16,14 +16,14 @@ HasName name (Int n) = IsTrue (is_index name) × (number name ≡ n)
 HasName name (Str bytes) = name ≡ bytes
 
 -- a path of one key, or the empty path for the empty name
-abbrev pub IsNamePath : List ℕ → List MarkedSegment → Type 0
+abbrev pub IsNamePath : List ℕ → List ParsedSegment → Type 0
 IsNamePath name [] = name ≡ []
-IsNamePath name (s ∷ []) = HasName name s.seg
+IsNamePath name (s ∷ []) = HasName name s.segment
 IsNamePath name (s ∷ t ∷ path) = ⊥
 
 -- a pair has a name and a value; no value and null count as the empty value
 pub record IsNamed (n : NameValue) (p : Pair) : Type 0 where
-  pub direct : IsFalse p.push
+  pub assigned : IsFalse p.push
   pub name : IsNamePath n.name p.path
   pub value : n.value ≡ leaf_text p.leaf
 
@@ -50,7 +50,7 @@ IsValueLeaf value _ = ⊥
 -- the entries of a map, one after another
 abbrev pub AreEntries : List NameValue → Entries → Type 0
 AreEntries [] no_entries = ⊤
-AreEntries (n ∷ ns) (entry k mark t es) = HasName n.name k × IsValueLeaf n.value t × AreEntries ns es
+AreEntries (n ∷ ns) (entry k escaped t es) = HasName n.name k × IsValueLeaf n.value t × AreEntries ns es
 AreEntries _ _ = ⊥
 
 -- The tree holds these names and values and nothing else: a map in the order of its keys, or a leaf if the empty name is the only one.

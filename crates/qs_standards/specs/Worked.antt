@@ -12,7 +12,7 @@ named name value = record { name = name; value = value }
 
 -- a map of one leaf
 abbrev pub one_leaf : Segment → Bool → Leaf → Tree
-one_leaf key mark l = Tree.mapping (entry key mark (Tree.leaf l) no_entries)
+one_leaf key escaped l = Tree.mapping (entry key escaped (Tree.leaf l) no_entries)
 
 -- the names and values that the standard's parser returns for an input, and the input's tree with depth limit 0
 pub record ReadsBoth (input : List ℕ) (ns : List NameValue) (t : Tree) : Type 0 where

@@ -23,12 +23,12 @@ pub fn broken_escapes()
 
 /// With depth limit 0, in both modes, every input is parsed as the pairs of the standard's pieces and no others.
 pub fn pairs_without_depth()
-    ensures { (form : Bool) (input : List ℕ) (pairs : List Pair) → ArePairs 0 (tokens form input) pairs ↔ (pairs ≡ piece_pairs input) }
+    ensures { (is_form : Bool) (input : List ℕ) (pairs : List Pair) → ArePairs 0 (tokens is_form input) pairs ↔ (pairs ≡ piece_pairs input) }
 {}
 
 /// With depth limit 0, in both modes, the pairs of an input are the standard's names and values exactly if no broken escape covers `+`
 /// or another escape.
 pub fn names_and_values()
-    ensures { (form : Bool) (input : List ℕ) (pairs : List Pair) → ArePairs 0 (tokens form input) pairs
+    ensures { (is_form : Bool) (input : List ℕ) (pairs : List Pair) → ArePairs 0 (tokens is_form input) pairs
         → AreNamed (form_parsed input) pairs ↔ IsFalse (covers_encoded input) }
 {}

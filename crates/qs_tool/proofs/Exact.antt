@@ -17,7 +17,7 @@ use Rattle.serde_qs.proofs.InRange.{below_64}
 use Rattle.serde_qs.specs.Fitting.{fitting}
 use Rattle.serde_qs.specs.Meaning.{both, boolean_in, option_data, option_in, sequence_in, text_in, unsigned_in, values_meant}
 use Rattle.serde_qs.specs.FieldTypes.{is_first_named}
-use Rattle.serde_qs.specs.Records.{field_data, field_form, field_in, first_of, member_in, nothing_in, others_of, struct_in}
+use Rattle.serde_qs.specs.Records.{field_data, field_shape, field_in, first_of, member_in, nothing_in, others_of, struct_in}
 use Rattle.serde_qs.specs.internal.Booleans.{both_hold}
 use Rattle.serde_qs.specs.internal.Fitting.{itself}
 use Rattle.serde_qs.specs.declared.compound.optional.Optional.{Optional}
@@ -101,11 +101,11 @@ not_none : {V : Type 0} (o : Option V) → option_map Some o ≡ Some None → �
 not_none None p = cc
 not_none (Some w) p = cc
 
-module _ {A V : Type 0} (value : A → V) (datum : A → Data) (form : Shape) (meaning : Data → Option V) (one : IsExact value datum form meaning) where
-  pub option_exact : IsExact (option_map value) (option_data datum) (Shape.option form) (option_in meaning)
+module _ {A V : Type 0} (value : A → V) (datum : A → Data) (shape : Shape) (meaning : Data → Option V) (one : IsExact value datum shape meaning) where
+  pub option_exact : IsExact (option_map value) (option_data datum) (Shape.option shape) (option_in meaning)
   option_exact = record { is_meant = meant; is_written = written }
     where
-      meant : {r : Bool} {node : Tree} {e : Data} → Reads r (Shape.option form) node e → (v : Option V) × (option_in meaning e ≡ Some v)
+      meant : {r : Bool} {node : Tree} {e : Data} → Reads r (Shape.option shape) node e → (v : Option V) × (option_in meaning e ≡ Some v)
       meant Reads.option_no_value = (None, refl)
       meant (Reads.option_null p) = let m = one.is_meant p in (Some m.0, ap (option_map Some) m.1)
       meant (Reads.option_full f p) = let m = one.is_meant p in (Some m.0, ap (option_map Some) m.1)
@@ -117,17 +117,17 @@ module _ {A V : Type 0} (value : A → V) (datum : A → Data) (form : Shape) (m
       written (Some x) (d.some e) p = ap d.some (one.is_written x e (inside (meaning e) (value x) p))
       written _ _ p = cc
 
-  pub sequence_exact : {L : Type 0} (items : L → List A) → IsExact (λ xs. map value (items xs)) (λ xs. d.sequence (values_of (map datum (items xs)))) (Shape.sequence form) (sequence_in meaning)
+  pub sequence_exact : {L : Type 0} (items : L → List A) → IsExact (λ xs. map value (items xs)) (λ xs. d.sequence (values_of (map datum (items xs)))) (Shape.sequence shape) (sequence_in meaning)
   sequence_exact items = record { is_meant = meant; is_written = λ xs e p. written (items xs) e p }
     where
-      each_meant : {r : Bool} {nodes : List (Option Tree)} {es : Values} → ReadsEach r form nodes es → (vs : List V) × (values_meant meaning es ≡ Some vs)
+      each_meant : {r : Bool} {nodes : List (Option Tree)} {es : Values} → ReadsEach r shape nodes es → (vs : List V) × (values_meant meaning es ≡ Some vs)
       each_meant ReadsEach.each_end = ([], refl)
       each_meant (ReadsEach.each_item {d = e} {ds = es} p ps) =
           let m = one.is_meant p in
           let ms = each_meant ps in
           (m.0 ∷ ms.0, ap (λ o. option_and_then (λ v. option_map (λ vs. v ∷ vs) (values_meant meaning es)) o) m.1 ∙ ap (option_map (λ vs. m.0 ∷ vs)) ms.1)
 
-      meant : {r : Bool} {node : Tree} {e : Data} → Reads r (Shape.sequence form) node e → (vs : List V) × (sequence_in meaning e ≡ Some vs)
+      meant : {r : Bool} {node : Tree} {e : Data} → Reads r (Shape.sequence shape) node e → (vs : List V) × (sequence_in meaning e ≡ Some vs)
       meant (Reads.sequence p ps) = each_meant ps
 
       parts : (o : Option V) (os : Option (List V)) (v : V) (vs : List V) → option_and_then (λ v. option_map (λ vs. v ∷ vs) os) o ≡ Some (v ∷ vs) → (o ≡ Some v) × (os ≡ Some vs)
@@ -166,21 +166,21 @@ pub record Exact (A : Type 0) : Type 1 where
   pub Value : Type 0
   pub value : A → Value
   pub datum : A → Data
-  pub form : Shape
+  pub shape : Shape
   pub meaning : Data → Option Value
-  pub exact : IsExact value datum form meaning
+  pub exact : IsExact value datum shape meaning
 
-abbrev pub exact_of : {A V : Type 0} {value : A → V} {datum : A → Data} {form : Shape} {meaning : Data → Option V} → IsExact value datum form meaning → Exact A
-exact_of {A} {V} {value} {datum} {form} {meaning} exact = record { Value = V; value = value; datum = datum; form = form; meaning = meaning; exact = exact }
+abbrev pub exact_of : {A V : Type 0} {value : A → V} {datum : A → Data} {shape : Shape} {meaning : Data → Option V} → IsExact value datum shape meaning → Exact A
+exact_of {A} {V} {value} {datum} {shape} {meaning} exact = record { Value = V; value = value; datum = datum; shape = shape; meaning = meaning; exact = exact }
 
 -- The same of the fields of a struct, by their names.
 pub record ExactFields (A : Type 0) : Type 1 where
   pub Value : Type 0
   pub value : A → Value
-  pub form : List (List ℕ) → List Field
+  pub shape : List (List ℕ) → List Field
   pub written : List (List ℕ) → A → List Named
   pub meaning : List (List ℕ) → Members → Option Value
-  pub are_meant : {reject_duplicates : Bool} (names : List (List ℕ)) {ms : Members} → field_names_differ (fields_of (form names)) ≡ true → FieldsRead reject_duplicates (fields_of (form names)) ms
+  pub are_meant : {reject_duplicates : Bool} (names : List (List ℕ)) {ms : Members} → field_names_differ (fields_of (shape names)) ≡ true → FieldsRead reject_duplicates (fields_of (shape names)) ms
       → (v : Value) × (meaning names ms ≡ Some v)
   pub are_written : (names : List (List ℕ)) (x : A) (ms : Members) → meaning names ms ≡ Some (value x) → members_of (written names x) ≡ ms
 
@@ -226,11 +226,11 @@ module _ {A B : Type 0} (t : Exact A) (r : ExactFields B) where
   same_member : (k n : List ℕ) (x e : Data) (ns ms : Members) → bytes_eq k n ≡ true → x ≡ e → ns ≡ ms → one_member n x ns ≡ one_member k e ms
   same_member k n x e ns ms q p ps = ap (λ m. one_member m x ns) (sym ((bytes_eq-Decides k n).0 q)) ∙ ap₂ (one_member k) p ps
 
-  pub field_meant : {reject_duplicates : Bool} (names : List (List ℕ)) {ms : Members} → field_names_differ (fields_of (field_form t.form false r.form names)) ≡ true → FieldsRead reject_duplicates (fields_of (field_form t.form false r.form names)) ms
+  pub field_meant : {reject_duplicates : Bool} (names : List (List ℕ)) {ms : Members} → field_names_differ (fields_of (field_shape t.shape false r.shape names)) ≡ true → FieldsRead reject_duplicates (fields_of (field_shape t.shape false r.shape names)) ms
       → (v : t.Value × r.Value) × (member_in t.meaning r.meaning names ms ≡ Some v)
   field_meant names k (FieldsRead.one_read {d = e} {ms} p ps) =
       let later = others_of names in
-      let fs = fields_of (r.form later) in
+      let fs = fields_of (r.shape later) in
       let m = t.exact.is_meant p in
       let ns = r.are_meant later (both_hold (not (is_field_name (first_of names) fs)) (field_names_differ fs) k).1 ps in
       ((m.0, ns.0), ap (λ b. if b then both (t.meaning e) (r.meaning later ms) else None) ((bytes_eq-Decides (first_of names) (first_of names)).1 refl) ∙ both_meant (t.meaning e) (r.meaning later ms) m.0 ns.0 m.1 ns.1)
@@ -254,17 +254,17 @@ module _ {A B : Type 0} (t : Exact A) (r : ExactFields B) where
       ap (λ b. if b then both (option_map Some (t.meaning e)) (r.meaning (others_of names) ms) else option_map (λ y. (None, y)) (r.meaning (others_of names) (one_member k e ms))) (other_field (first_of names) k fs free named)
       ∙ ap (option_map (λ y. (None, y))) p
 
-  pub optional_meant : {reject_duplicates : Bool} (names : List (List ℕ)) {ms : Members} → field_names_differ (fields_of (field_form t.form true r.form names)) ≡ true → FieldsRead reject_duplicates (fields_of (field_form t.form true r.form names)) ms
+  pub optional_meant : {reject_duplicates : Bool} (names : List (List ℕ)) {ms : Members} → field_names_differ (fields_of (field_shape t.shape true r.shape names)) ≡ true → FieldsRead reject_duplicates (fields_of (field_shape t.shape true r.shape names)) ms
       → (v : Option t.Value × r.Value) × (field_in (Some None) (λ e. option_map Some (t.meaning e)) r.meaning names ms ≡ Some v)
   optional_meant names k (FieldsRead.one_read {d = e} {ms} p ps) =
       let later = others_of names in
-      let fs = fields_of (r.form later) in
+      let fs = fields_of (r.shape later) in
       let m = t.exact.is_meant p in
       let ns = r.are_meant later (both_hold (not (is_field_name (first_of names) fs)) (field_names_differ fs) k).1 ps in
       ((Some m.0, ns.0), ap (λ b. if b then both (option_map Some (t.meaning e)) (r.meaning later ms) else option_map (λ y. (None, y)) (r.meaning later (one_member (first_of names) e ms))) ((bytes_eq-Decides (first_of names) (first_of names)).1 refl) ∙ both_meant (option_map Some (t.meaning e)) (r.meaning later ms) (Some m.0) ns.0 (ap (option_map Some) m.1) ns.1)
   optional_meant names k (FieldsRead.left_out {ms} ps) =
       let later = others_of names in
-      let fs = fields_of (r.form later) in
+      let fs = fields_of (r.shape later) in
       let differ = both_hold (not (is_field_name (first_of names) fs)) (field_names_differ fs) k in
       let ns = r.are_meant later differ.1 ps in
       ((None, ns.0), absent names ms fs differ.0 (first_read ps) ns.0 ns.1)
@@ -288,7 +288,7 @@ abbrev pub no_fields : ExactFields (Unit {0})
 no_fields = record {
   Value = Unit {0};
   value = λ x. tt;
-  form = λ names. [];
+  shape = λ names. [];
   written = λ names x. [];
   meaning = λ names ms. nothing_in ms;
   are_meant = none_meant;
@@ -299,7 +299,7 @@ abbrev pub field : {A B : Type 0} → Exact A → ExactFields B → ExactFields 
 field t r = record {
   Value = t.Value × r.Value;
   value = λ x. (t.value x.0, r.value x.1);
-  form = λ names. field_form t.form false r.form names;
+  shape = λ names. field_shape t.shape false r.shape names;
   written = λ names x. field_data (Some (t.datum x.0)) (λ ns. r.written ns x.1) names;
   meaning = λ names ms. member_in t.meaning r.meaning names ms;
   are_meant = field_meant t r;
@@ -310,7 +310,7 @@ abbrev pub optional_field : {A B : Type 0} → Exact A → ExactFields B → Exa
 optional_field t r = record {
   Value = Option t.Value × r.Value;
   value = λ x. (option_map t.value x.0.0, r.value x.1);
-  form = λ names. field_form t.form true r.form names;
+  shape = λ names. field_shape t.shape true r.shape names;
   written = λ names x. field_data (option_map t.datum x.0.0) (λ ns. r.written ns x.1) names;
   meaning = λ names ms. field_in (Some None) (λ e. option_map Some (t.meaning e)) r.meaning names ms;
   are_meant = optional_meant t r;
@@ -318,11 +318,11 @@ optional_field t r = record {
 }
 
 -- a struct of such fields, strict or not
-pub struct_exact : {A B : Type 0} (t : ExactFields B) (u : UnknownKeys) (names : List (List ℕ)) → field_names_differ (fields_of (t.form names)) ≡ true → (parts : A → B)
-    → IsExact (λ x. t.value (parts x)) (λ x. d.struct (members_of (t.written names (parts x)))) (Shape.struct u (fields_of (t.form names))) (λ e. struct_in (t.meaning names) e)
+pub struct_exact : {A B : Type 0} (t : ExactFields B) (u : UnknownKeys) (names : List (List ℕ)) → field_names_differ (fields_of (t.shape names)) ≡ true → (parts : A → B)
+    → IsExact (λ x. t.value (parts x)) (λ x. d.struct (members_of (t.written names (parts x)))) (Shape.struct u (fields_of (t.shape names))) (λ e. struct_in (t.meaning names) e)
 struct_exact {A} t u names differ parts = record { is_meant = meant; is_written = written }
   where
-    meant : {r : Bool} {node : Tree} {e : Data} → Reads r (Shape.struct u (fields_of (t.form names))) node e → (v : t.Value) × (struct_in (t.meaning names) e ≡ Some v)
+    meant : {r : Bool} {node : Tree} {e : Data} → Reads r (Shape.struct u (fields_of (t.shape names))) node e → (v : t.Value) × (struct_in (t.meaning names) e ≡ Some v)
     meant (Reads.struct ps) = t.are_meant names differ (in_struct ps)
 
     written : (x : A) (e : Data) → struct_in (t.meaning names) e ≡ Some (t.value (parts x)) → d.struct (members_of (t.written names (parts x))) ≡ e

@@ -19,10 +19,10 @@ abbrev boolean : Exact Bool
 boolean = exact_of (boolean_exact (λ (b : Bool). b))
 
 abbrev option : {A : Type 0} → Exact A → Exact (Option A)
-option t = exact_of (option_exact t.value t.datum t.form t.meaning t.exact)
+option t = exact_of (option_exact t.value t.datum t.shape t.meaning t.exact)
 
 abbrev sequence : {A : Type 0} → Exact A → Exact (Vec A Global)
-sequence {A} t = exact_of (sequence_exact t.value t.datum t.form t.meaning t.exact (λ (xs : Vec A Global). xs.items))
+sequence {A} t = exact_of (sequence_exact t.value t.datum t.shape t.meaning t.exact (λ (xs : Vec A Global). xs.items))
 
 -- the types, and others that hold one of them
 

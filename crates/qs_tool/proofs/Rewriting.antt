@@ -43,19 +43,19 @@ no_text config x Unsupported report other = ap (λ r. unless_rejected r (text_of
 no_text config x OutOfMemory report other = cc
 no_text config x _ report other = absurd report
 
-module _ {A V : Type 0} (value : A → V) (datum : A → Data) (form : Shape) (meaning : Data → Option V) (exact : IsExact value datum form meaning)
+module _ {A V : Type 0} (value : A → V) (datum : A → Data) (shape : Shape) (meaning : Data → Option V) (exact : IsExact value datum shape meaning)
     (config : Config) (input : List ℕ) where
   -- the data of the value are those that were read
-  own_data : (x : A) (read : IsRead config form meaning input (value x)) → ReadsBy config form read.tree (datum x)
-  own_data x read = let P : Data → Type 0 = λ d. ReadsBy config form read.tree d in subst P (sym (exact.is_written x read.datum read.is_meant)) read.is_read
+  own_data : (x : A) (read : IsRead config shape meaning input (value x)) → ReadsBy config shape read.tree (datum x)
+  own_data x read = let P : Data → Type 0 = λ d. ReadsBy config shape read.tree d in subst P (sym (exact.is_written x read.datum read.is_meant)) read.is_read
 
-  pub not_printed_again : (x : A) → IsRead config form meaning input (value x) → rewritten config (datum x) ≡ None → IsFaultyBy config form (rewritten config) input
+  pub not_printed_again : (x : A) → IsRead config shape meaning input (value x) → rewritten config (datum x) ≡ None → IsFaultyBy config shape (rewritten config) input
   not_printed_again x read is = not_printed read.tree (datum x) read.has_tree (own_data x read) is
 
-  unread : IsUnread config form meaning input → IsFaultyBy config form (rewritten config) input
+  unread : IsUnread config shape meaning input → IsFaultyBy config shape (rewritten config) input
   unread un = not_read un.tree un.has_tree (λ d p. let m = exact.is_meant p in none-some m.0 (sym (un.is_unread d p) ∙ m.1))
 
-  pub faulty : (e : Error) → ReturnsValue value config form meaning input (Err e) → is_memory e ≡ false → IsFaultyBy config form (rewritten config) input
+  pub faulty : (e : Error) → ReturnsValue value config shape meaning input (Err e) → is_memory e ≡ false → IsFaultyBy config shape (rewritten config) input
   faulty (Custom message) report other = unread report
   faulty (Utf8 cause) report other = unread report.0
   faulty (Parse message position) report other = no_tree report.0

@@ -101,7 +101,7 @@ request command depth s = record {
   strict = s.strict;
   config = record {
     max_depth = depth;
-    form = s.form;
+    is_form = s.form;
     array_format = array_format_of (or_else Indexed s.format);
     duplicates = duplicates_of (or_else TakeLast s.duplicates);
   };

@@ -47,7 +47,7 @@ unless_rejected (Some error) text = None
 
 -- the querystring that the data are written as, unless they are rejected
 abbrev pub rewritten : Config → Data → Option (List ℕ)
-rewritten config value = unless_rejected (entries config value).error (written config.form false (entries config value).entries)
+rewritten config value = unless_rejected (entries config value).error (written config.is_form false (entries config value).entries)
 
 -- what a command prints of the data that it read: `any` shows them, the others write them as a querystring again
 abbrev pub printed : Command → Config → Data → Option (List ℕ)
@@ -59,15 +59,15 @@ printed Any config value = Some (shown value)
 pub record IsPrintedBy (config : Config) (shape : Shape) (print : Data → Option (List ℕ)) (input text : List ℕ) : Type 0 where
   pub tree : Tree
   pub value : Data
-  pub has_tree : IsTree config.form config.max_depth input tree
+  pub has_tree : IsTree config.is_form config.max_depth input tree
   pub is_read : ReadsBy config shape tree value
   pub is_text : print value ≡ Some text
 
 -- the input has no tree, or the shape reads nothing from it, or what it reads isn't printed
 pub data IsFaultyBy (config : Config) (shape : Shape) (print : Data → Option (List ℕ)) (input : List ℕ) : Type 0 where
-  no_tree : HasNoTree config.form config.max_depth input → IsFaultyBy config shape print input
-  not_read : (tree : Tree) → IsTree config.form config.max_depth input tree → ReadsNothing config shape tree → IsFaultyBy config shape print input
-  not_printed : (tree : Tree) (value : Data) → IsTree config.form config.max_depth input tree → ReadsBy config shape tree value → print value ≡ None
+  no_tree : HasNoTree config.is_form config.max_depth input → IsFaultyBy config shape print input
+  not_read : (tree : Tree) → IsTree config.is_form config.max_depth input tree → ReadsNothing config shape tree → IsFaultyBy config shape print input
+  not_printed : (tree : Tree) (value : Data) → IsTree config.is_form config.max_depth input tree → ReadsBy config shape tree value → print value ≡ None
       → IsFaultyBy config shape print input
 
 -- the same by the command's shape, and printed as the command does

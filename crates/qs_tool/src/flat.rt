@@ -30,7 +30,7 @@ const NAMES: &[&str] = &["name", "age", "occupation", "active", "note"];
 impl Compound for Flat {
     ghost table = { made_of ⟦<Struct<FlatFields> as Parts>⟧.table NAMES.now (λ flat. record { 0 = (flat.name, (flat.age, (flat.occupation, (record { 0 = flat.active }, (flat.note, tt))))) }) _ };
 
-    fn form(alloc: Global) -> Result<Shape> {
+    fn parts_shape(alloc: Global) -> Result<Shape> {
         Struct::<FlatFields>::shape(alloc, NAMES)
     }
 
@@ -46,7 +46,7 @@ impl Compound for Flat {
         })
     }
 
-    fn written(&self, out: Out) -> WriteResult {
+    fn write_parts(&self, out: Out) -> WriteResult {
         out.fields(NAMES, fields!(self; name, age, occupation, active?, note))
     }
 }
@@ -54,7 +54,7 @@ impl Compound for Flat {
 impl Compound for Strict<Flat> {
     ghost table = { made_of ⟦<StrictStruct<FlatFields> as Parts>⟧.table NAMES.now (λ strict. record { 0 = (strict.0.name, (strict.0.age, (strict.0.occupation, (record { 0 = strict.0.active }, (strict.0.note, tt))))) }) _ };
 
-    fn form(alloc: Global) -> Result<Shape> {
+    fn parts_shape(alloc: Global) -> Result<Shape> {
         StrictStruct::<FlatFields>::shape(alloc, NAMES)
     }
 
@@ -70,7 +70,7 @@ impl Compound for Strict<Flat> {
         }))
     }
 
-    fn written(&self, out: Out) -> WriteResult {
-        self.0.written(out)
+    fn write_parts(&self, out: Out) -> WriteResult {
+        self.0.write_parts(out)
     }
 }

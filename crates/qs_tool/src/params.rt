@@ -25,7 +25,7 @@ const ADDRESS: &[&str] = &["city", "street", "postcode"];
 impl Compound for Address {
     ghost table = { made_of ⟦<Struct<AddressFields> as Parts>⟧.table ADDRESS.now (λ address. record { 0 = (address.city, (address.street, (address.postcode, tt))) }) _ };
 
-    fn form(alloc: Global) -> Result<Shape> {
+    fn parts_shape(alloc: Global) -> Result<Shape> {
         Struct::<AddressFields>::shape(alloc, ADDRESS)
     }
 
@@ -39,7 +39,7 @@ impl Compound for Address {
         })
     }
 
-    fn written(&self, out: Out) -> WriteResult {
+    fn write_parts(&self, out: Out) -> WriteResult {
         out.fields(ADDRESS, fields!(self; city, street, postcode))
     }
 }
@@ -47,7 +47,7 @@ impl Compound for Address {
 impl Compound for Strict<Address> {
     ghost table = { made_of ⟦<StrictStruct<AddressFields> as Parts>⟧.table ADDRESS.now (λ strict. record { 0 = (strict.0.city, (strict.0.street, (strict.0.postcode, tt))) }) _ };
 
-    fn form(alloc: Global) -> Result<Shape> {
+    fn parts_shape(alloc: Global) -> Result<Shape> {
         StrictStruct::<AddressFields>::shape(alloc, ADDRESS)
     }
 
@@ -61,8 +61,8 @@ impl Compound for Strict<Address> {
         }))
     }
 
-    fn written(&self, out: Out) -> WriteResult {
-        self.0.written(out)
+    fn write_parts(&self, out: Out) -> WriteResult {
+        self.0.write_parts(out)
     }
 }
 
@@ -83,7 +83,7 @@ const PARAMS: &[&str] = &["id", "name", "phone", "address", "user_ids"];
 impl<A: RoundTrip + Drop> Compound for Params<A> {
     ghost table = { made_of ⟦<Struct<ParamsFields<A>> as Parts>⟧.table PARAMS.now (λ params. record { 0 = (params.id, (params.name, (params.phone, (params.address, (params.user_ids, tt))))) }) _ };
 
-    fn form(alloc: Global) -> Result<Shape> {
+    fn parts_shape(alloc: Global) -> Result<Shape> {
         Struct::<ParamsFields<A>>::shape(alloc, PARAMS)
     }
 
@@ -99,7 +99,7 @@ impl<A: RoundTrip + Drop> Compound for Params<A> {
         })
     }
 
-    fn written(&self, out: Out) -> WriteResult {
+    fn write_parts(&self, out: Out) -> WriteResult {
         out.fields(PARAMS, fields!(self; id, name, phone, address, user_ids))
     }
 }
@@ -107,7 +107,7 @@ impl<A: RoundTrip + Drop> Compound for Params<A> {
 impl<A: RoundTrip + Drop> Compound for Strict<Params<A>> {
     ghost table = { made_of ⟦<StrictStruct<ParamsFields<A>> as Parts>⟧.table PARAMS.now (λ strict. record { 0 = (strict.0.id, (strict.0.name, (strict.0.phone, (strict.0.address, (strict.0.user_ids, tt))))) }) _ };
 
-    fn form(alloc: Global) -> Result<Shape> {
+    fn parts_shape(alloc: Global) -> Result<Shape> {
         StrictStruct::<ParamsFields<A>>::shape(alloc, PARAMS)
     }
 
@@ -123,7 +123,7 @@ impl<A: RoundTrip + Drop> Compound for Strict<Params<A>> {
         }))
     }
 
-    fn written(&self, out: Out) -> WriteResult {
-        self.0.written(out)
+    fn write_parts(&self, out: Out) -> WriteResult {
+        self.0.write_parts(out)
     }
 }

@@ -38,9 +38,9 @@ pub fn printed(alloc: Global, request: Request, input: &[u8]) -> Result<Vec<u8>>
 
 // Reads a value from the input, and returns the querystring that it is written as.
 fn rewritten<T: RoundTrip + Drop>(alloc: Global, config: Config, input: &[u8]) -> Result<Vec<u8>>
-    requires { IsExact T.table.value T.datum T.table.form T.table.meaning }
-    ensures text { IfOk result (λ text. IsPrintedBy config T.table.form (rewritten config) input.now text.items) }
-    ensures fault { IfInputError result (IsFaultyBy config T.table.form (rewritten config) input.now) }
+    requires { IsExact T.table.value T.datum T.table.shape T.table.meaning }
+    ensures text { IfOk result (λ text. IsPrintedBy config T.table.shape (rewritten config) input.now text.items) }
+    ensures fault { IfInputError result (IsFaultyBy config T.table.shape (rewritten config) input.now) }
 {
     let value: T = config.deserialize_bytes(alloc, input)?;
     Ok(config.serialize_string(alloc, &value)?.into_bytes())
@@ -63,8 +63,8 @@ fn printed_any(alloc: Global, config: Config, input: &[u8]) -> Result<Vec<u8>>
 // Parses the input as a querystring. States only the clauses that are needed here.
 fn parsed<'qs>(alloc: Global, config: Config, input: &'qs [u8]) -> Result<Deserializer<'qs>>
     ensures config { IfOk result (λ d. (parsed_of d).config ≡ config) }
-    ensures tree { IfOk result (λ d. IsTree config.form config.max_depth input.now (parsed_of d).tree) }
-    ensures no_tree { IsParse result → HasNoTree config.form config.max_depth input.now }
+    ensures tree { IfOk result (λ d. IsTree config.is_form config.max_depth input.now (parsed_of d).tree) }
+    ensures no_tree { IsParse result → HasNoTree config.is_form config.max_depth input.now }
     ensures errors { OnlyParseOrOutOfMemory result }
 {
     Deserializer::with_config(alloc, config, input)

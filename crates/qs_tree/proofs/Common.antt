@@ -6,23 +6,23 @@ pub use Rattle.std.proofs.Common.{Bool, Bor, Equal, Err, Fits, Global, Greater, 
 pub use Rattle.qs_spec.proofs.Booleans.{and_both, or_both}
 pub use Rattle.qs_spec.proofs.Order.{is_itself, segments_total}
 pub use Rattle.qs_spec.proofs.TreeOf.{one_tree, same_segment}
-pub use Rattle.qs_spec.specs.Escape.{decoded, encoded, escape, is_between, is_kept_in_query, is_marked, encoded_byte, unplus}
-pub use Rattle.qs_spec.specs.Grammar.{ArePairs, Pair, direct, ends_last, ends_root, is_amp, is_close, is_equals, is_open, longer, pushed, root}
+pub use Rattle.qs_spec.specs.Escape.{decoded, encoded, escape, is_between, is_kept_in_query, has_escape, encoded_byte, unplus}
+pub use Rattle.qs_spec.specs.Grammar.{ArePairs, Pair, assigned, ends_last, ends_root, is_amp, is_close, is_equals, is_open, longer, pushed, root}
 pub use Rattle.qs_spec.specs.Leaf.{Leaf}
-pub use Rattle.qs_spec.specs.Marks.{entries_marks, items_marks, key_marks, marks}
-pub use Rattle.qs_spec.specs.Order.{AreEquivalent, AreReordered, unmarked}
+pub use Rattle.qs_spec.specs.Escapes.{entry_escapes, item_escapes, key_escapes, escapes}
+pub use Rattle.qs_spec.specs.Order.{AreEquivalent, AreReordered, ignoring_escapes}
 pub use Rattle.qs_spec.specs.Node.{value_at_key}
-pub use Rattle.qs_spec.specs.Segment.{Segment, MarkedSegment, compare_segments, is_index, is_same_segment, number, segment_of, marked_segment_of, Int, Str}
-pub use Rattle.qs_spec.specs.Token.{Kind, Token, byte_kind, byte_token, is_escaped_bracket, raw_of, tokens, Amp, Close, Equals, Open, Other}
-pub use Rattle.qs_spec.specs.Tree.{Entries, HasNoTree, IsTree, Tree, empty_segment, entries_of, flat, head_mark, heads, node_within, entry, no_entries, leaf, mapping, sequence, uninitialized}
-pub use Rattle.qs_spec.specs.internal.InPlace.{add, add_all, add_below, add_flat, add_here, push_item, update, update_by}
+pub use Rattle.qs_spec.specs.Segment.{Segment, ParsedSegment, compare_segments, is_index, is_same_segment, number, segment_of, parsed_segment_of, Int, Str}
+pub use Rattle.qs_spec.specs.Token.{TokenKind, Token, byte_kind, byte_token, is_escaped_bracket, raw_of, tokens, Amp, Close, Equals, Open, Other}
+pub use Rattle.qs_spec.specs.Tree.{Entries, HasNoTree, IsTree, Tree, empty_segment, entries_of, node_of_leaves, head_escaped, heads, node_within, entry, no_entries, leaf, mapping, sequence, uninitialized}
+pub use Rattle.qs_spec.specs.internal.InPlace.{add, add_all, add_below, add_to_leaves, add_here, push_item, update, update_by}
 pub use Rattle.qs_spec.specs.internal.Parsing.{Rest, after_close, after_close_at, after_root, after_root_at, after_run, and_pairs, cut, cut_at, in_last, in_segment, named, parsed_brackets, parsed_pairs, parsed_value, value_at, with_leaf}
 pub use Rattle.qs_tree.specs.Error.{IfParse, IsOutOfMemory, IsParse, OnlyOutOfMemory, OnlyParseOrOutOfMemory}
 pub use Rattle.qs_tree.specs.Parsing.{HoldsOf, AllocatesNothing, is_ampersands, is_unescaped, is_unescaped_value}
 pub use Rattle.qs_tree.specs.declared.build.builder.MapBuilder.{MapBuilder, Vector}
 pub use Rattle.qs_tree.specs.declared.build.builder.TreeBuilder.{TreeBuilder, Value}
 pub use Rattle.qs_tree.specs.declared.build.conflict.AddError.{AddError}
-pub use Rattle.qs_tree.specs.declared.build.finishing.Frame.{Frame}
+pub use Rattle.qs_tree.specs.declared.build.finishing.OuterLevel.{OuterLevel}
 pub use Rattle.qs_tree.specs.declared.error.Error.{Error}
 pub use Rattle.qs_tree.specs.declared.error.Error.TheVariants.{OutOfMemory, Parse}
 pub use Rattle.qs_tree.specs.declared.tree.key.Key.{Key}
@@ -32,7 +32,7 @@ pub use Rattle.qs_tree.specs.declared.tree.value.ParsedValue.TheViews.{roll-Pars
 pub use Rattle.qs_tree.specs.escape.Classes.{is_ampersand, is_encoded, is_escape}
 pub use Rattle.qs_tree.specs.internal.Parsing.{Returns, grown}
 pub use Rattle.qs_tree.specs.internal.build.Adding.{Adds, AddGives, IsRejected, entries_below, second}
-pub use Rattle.qs_tree.specs.internal.build.Builder.{IsFlat, IsNoMap, Takes, as_builders, built_entries, built_tree, child, entries_held, entries_seen, fresh, unsorted_entries}
+pub use Rattle.qs_tree.specs.internal.build.Builder.{HasNoMap, IsNoMap, Takes, as_builders, built_entries, built_tree, child, entries_held, entries_seen, fresh, unsorted_entries}
 pub use Rattle.qs_tree.specs.internal.build.Descent.{IsBarred, IsOpen, Leads, put_all_back, put_back}
 pub use Rattle.qs_tree.specs.internal.build.Finishing.{IsOpened, built_pairs, entries_map_count, left_pairs, level_pairs, maps_left, with_node}
 pub use Rattle.qs_tree.specs.internal.build.Unsorted.{AreLeaves, entries_of_leaves, is_leaf, leaf_held, leaf_pairs}
@@ -42,7 +42,7 @@ pub use Rattle.qs_tree.specs.internal.scan.Cursor.{IsInside, IsLeft, IsPast, Kno
 pub use Rattle.qs_tree.specs.internal.scan.Pairs.{is_push, leaf_in, leaf_of, pair_of, path_of}
 pub use Rattle.qs_tree.specs.internal.scan.Parser.{Follows, FollowsStop, IsClosing, IsEnd, IsMore, IsParseError, ParsesItem, ParsesPair, from_root, from_root_at, is_nothing, root_path}
 pub use Rattle.qs_tree.specs.internal.scan.Raw.{index_from, index_of}
-pub use Rattle.qs_tree.specs.internal.scan.Small.{IsEqualsStop, ParsesSmall, StaysSmall}
+pub use Rattle.qs_tree.specs.internal.scan.Unallocated.{IsEqualsStop, ParsesUnallocated, StaysUnallocated}
 pub use Rattle.qs_tree.specs.internal.tree.KeyTrees.{key_trees}
 pub use Rattle.qs_tree.specs.internal.tree.NodeCount.{entries_node_count, items_node_count, node_count}
 pub use Rattle.qs_tree.specs.internal.tree.Places.{IsGap, IsHit, against, put_value}
@@ -51,7 +51,7 @@ pub use Rattle.qs_tree.specs.tree.Keys.{key_cmp, key_eq, value_eq}
 pub use Rattle.qs_tree.specs.tree.Lookup.{binary_digits}
 pub use Rattle.qs_tree.specs.tree.Ordered.{AreOrdered, IsBefore}
 pub use Rattle.qs_tree.specs.tree.Owned.{entries_own, items_own, key_owns, map_owns, owns}
-pub use Rattle.qs_tree.specs.tree.Views.{entries_from, entries_of_map, entry_list, items_of, key_mark, map_pairs, segment_of_key, marked_segment_of_key, take_out, tree_of}
+pub use Rattle.qs_tree.specs.tree.Views.{entries_from, entries_of_map, entry_list, items_of, is_owned_key, map_pairs, segment_of_key, parsed_segment_of_key, take_out, tree_of}
 pub use Rattle.std.proofs.Math.ListN.{drop_of_length-le}
 pub use Rattle.std.proofs.Math.Seq.{take-add, take-append-add, take-append_seam, take-length}
 pub use Rattle.std.proofs.lemmas.Bool.{agree_below, agree_below_at, and_parts, cases_Bool, cases_lt, cond-false, cond-true, le-leb, le-ltb, leb-false, leb-true, lt-leb, lt-ltb, ltb-false, ltb-true, not-false, not-true}

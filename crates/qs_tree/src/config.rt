@@ -47,7 +47,7 @@ pub enum DuplicateKeyBehavior {
 #[derive(Clone, Copy, Debug)]
 pub struct Config {
     max_depth: usize,
-    form: bool,
+    is_form: bool,
     array_format: ArrayFormat,
     duplicates: DuplicateKeyBehavior,
 }
@@ -61,21 +61,21 @@ impl Model for Config {
 
     ghost view = { λ c. record {
       max_depth = c.max_depth;
-      form = c.form;
+      is_form = c.is_form;
       array_format = array_format_of c.array_format;
       duplicates = duplicates_of c.duplicates;
     } };
 
     ghost inverse = { λ c. record {
       max_depth = c.max_depth;
-      form = c.form;
+      is_form = c.is_form;
       array_format = array_format_from c.array_format;
       duplicates = duplicates_from c.duplicates;
     } };
 
     ghost inverse_ok = { λ c _ i. record {
       max_depth = c.max_depth;
-      form = c.form;
+      is_form = c.is_form;
       array_format = array_format_back c.array_format i;
       duplicates = duplicates_back c.duplicates i;
     } };
@@ -92,7 +92,7 @@ impl Config {
     {
         Config {
             max_depth: 5,
-            form: false,
+            is_form: false,
             array_format: ArrayFormat::default(),
             duplicates: DuplicateKeyBehavior::default(),
         }
@@ -115,10 +115,10 @@ impl Config {
     /// ```
     /// parse(alloc, b"a%5Bb%5D=1", Config::new().use_form_encoding(true)) // the keys `a` and `b`
     /// ```
-    pub fn use_form_encoding(self, form: bool) -> Config
-        ensures { result ≡ record self { form = form } }
+    pub fn use_form_encoding(self, is_form: bool) -> Config
+        ensures { result ≡ record self { is_form = is_form } }
     {
-        Config { form, ..self }
+        Config { is_form, ..self }
     }
 
     /// Sets how the index of a list's element is written.
@@ -163,9 +163,9 @@ impl Config {
     /// Config::new().get_form() // false
     /// ```
     pub fn get_form(&self) -> bool
-        ensures { result ≡ self.now.form }
+        ensures { result ≡ self.now.is_form }
     {
-        self.form
+        self.is_form
     }
 
     /// Returns how the index of a list's element is written.

@@ -6,10 +6,10 @@ ghost use Rattle.std.specs.Prelude.{◌≡◌, ◌≤◌, ◌+◌, length, IfOk,
 ghost use Rattle.qs_spec.specs.Tree.Tree.{uninitialized};
 ghost use Rattle.qs_spec.specs.internal.InPlace as in_place;
 ghost use Rattle.qs_tree.specs.tree.Views.{tree_of};
-ghost use Rattle.qs_tree.specs.internal.scan.Pairs.{IsBare, pair_of};
+ghost use Rattle.qs_tree.specs.internal.scan.Pairs.{IsRootValue, pair_of};
 ghost use Rattle.qs_tree.specs.internal.scan.Cursor.{left, KnowsEnd, in_all};
-ghost use Rattle.qs_tree.specs.internal.build.Builder.{built_tree, fresh, IsFlat};
-ghost use Rattle.qs_tree.specs.internal.Parsing.{grown, Finds};
+ghost use Rattle.qs_tree.specs.internal.build.Builder.{built_tree, fresh, HasNoMap};
+ghost use Rattle.qs_tree.specs.internal.Parsing.{grown, FindsTree};
 ghost use Rattle.qs_tree.specs.Error.{IfParse};
 ghost use Rattle.qs_tree.specs.Parsing.{Parses, AllocatesNothing};
 
@@ -47,7 +47,7 @@ use std::mem;
 /// let tree = parse(alloc, b"a[b]=1&a[c]=x%20y", Config::new())?; // a map with a map under `a`
 /// ```
 pub fn parse(alloc: Global, input: &[u8], config: Config) -> Result<ParsedValue<'_>>
-    ensures parsed { Parses config.form config.max_depth input.now result }
+    ensures parsed { Parses config.is_form config.max_depth input.now result }
 {
     parse_with(alloc, &mut Steps::new(), input, config)
 }
@@ -70,7 +70,7 @@ pub fn parse_with<'qs>(
     input: &'qs [u8],
     config: Config,
 ) -> Result<ParsedValue<'qs>>
-    ensures parsed { Parses config.form config.max_depth input.now result }
+    ensures parsed { Parses config.is_form config.max_depth input.now result }
     ensures grows { steps.old ≤ steps.new }
     ensures most { steps.new ≤ steps.old + length input.now + 1 }
     ensures exact { IfOk result (λ _. steps.new ≡ steps.old + length input.now + 1) }
@@ -100,7 +100,7 @@ fn parse_tree<'qs>(
     max_depth: usize,
 ) -> Result<ParsedValue<'qs>, ScanError>
     requires end { KnowsEnd cursor.old }
-    ensures tree { Finds tree_of (grown max_depth (left cursor.old) uninitialized) result }
+    ensures tree { FindsTree tree_of (grown max_depth (left cursor.old) uninitialized) result }
     ensures steps { in_all cursor.new ≡ in_all cursor.old }
     ensures fewer { length cursor.new.rest.now ≤ length cursor.old.rest.now }
     ensures end { IfOk result (λ _. in_all cursor.new ≡ cursor.new.steps) }
@@ -124,11 +124,11 @@ fn scan<'qs>(
     pair: &mut Pair<'qs>,
 ) -> Result<(), ScanError>
     requires end { KnowsEnd cursor.old }
-    ensures tree { Finds (λ _. built_tree tree.new) (grown max_depth (left cursor.old) (built_tree tree.old)) result }
+    ensures tree { FindsTree (λ _. built_tree tree.new) (grown max_depth (left cursor.old) (built_tree tree.old)) result }
     ensures steps { in_all cursor.new ≡ in_all cursor.old }
     ensures fewer { length cursor.new.rest.now ≤ length cursor.old.rest.now }
     ensures end { IfOk result (λ _. in_all cursor.new ≡ cursor.new.steps) }
-    ensures no_allocation { AllocatesNothing cursor.old.rest.now → tree.old ≡ fresh → IsOkAnd result (λ _. IsFlat tree.new) }
+    ensures no_allocation { AllocatesNothing cursor.old.rest.now → tree.old ≡ fresh → IsOkAnd result (λ _. HasNoMap tree.new) }
 {
     loop {
         let item = match parse_item(alloc, cursor, max_depth, pair) {
@@ -151,8 +151,8 @@ fn add<'qs>(
     tree: &mut TreeBuilder<'qs>,
     pair: &mut Pair<'qs>,
 ) -> Result<(), ScanError>
-    ensures tree { let p = pair_of pair.old in Finds (λ _. built_tree tree.new) (in_place.add p.path p.push p.leaf (built_tree tree.old)) result }
-    ensures fresh { IsBare pair.old → tree.old ≡ fresh → IsOkAnd result (λ _. IsFlat tree.new) }
+    ensures tree { let p = pair_of pair.old in FindsTree (λ _. built_tree tree.new) (in_place.add p.path p.push p.leaf (built_tree tree.old)) result }
+    ensures fresh { IsRootValue pair.old → tree.old ≡ fresh → IsOkAnd result (λ _. HasNoMap tree.new) }
 {
     match add_pair(alloc, tree, pair) {
         Ok(()) => Ok(()),

@@ -54,7 +54,7 @@ module _ {V : Type 0} (m : Data → Option V) (r : Reader) where
 
   pairs_meant : (es : Entries) (f : Values) → onto f (read_pairs s.KeyShape.text r es) ≡ entries_onto value_at f es
   pairs_meant no_entries f = refl
-  pairs_meant (entry k mark t es) f =
+  pairs_meant (entry k escaped t es) f =
       tested (is_utf8 (segment_text k)) f (segment_text k) (r t) (read_pairs s.KeyShape.text r es) (λ v. entries_onto value_at (with_value (segment_text k) v f) es)
       (λ v. pairs_meant es (with_value (segment_text k) v f))
 
@@ -66,15 +66,15 @@ module _ {V : Type 0} (m : Data → Option V) (r : Reader) where
   unfolding read_map
   map_meant (leaf NoValue) = refl
   map_meant (leaf Null) = refl
-  map_meant (leaf (Text bytes mark)) = pairs_meant (under_empty (leaf (Text bytes mark))) nowhere
+  map_meant (leaf (Text bytes escaped)) = pairs_meant (under_empty (leaf (Text bytes escaped))) nowhere
   map_meant (sequence xs) = refl
   map_meant (mapping es) = pairs_meant es nowhere
   map_meant uninitialized = refl
 
-pub mapping_read : {V : Type 0} (m : Data → Option V) (reject_duplicates : Bool) (form : Shape) (t : Tree)
-    → option_and_then (mapping_in m) (reads reject_duplicates (s.Shape.mapping s.KeyShape.text form) t) ≡ option_and_then (entries_onto (λ n. option_and_then m (reads reject_duplicates form n)) nowhere) (node_entries t)
+pub mapping_read : {V : Type 0} (m : Data → Option V) (reject_duplicates : Bool) (shape : Shape) (t : Tree)
+    → option_and_then (mapping_in m) (reads reject_duplicates (s.Shape.mapping s.KeyShape.text shape) t) ≡ option_and_then (entries_onto (λ n. option_and_then m (reads reject_duplicates shape n)) nowhere) (node_entries t)
 unfolding reads
-mapping_read m reject_duplicates form t = in_mapping m (reads reject_duplicates form) (read_map s.KeyShape.text (reads reject_duplicates form) t) ∙ map_meant m (reads reject_duplicates form) t
+mapping_read m reject_duplicates shape t = in_mapping m (reads reject_duplicates shape) (read_map s.KeyShape.text (reads reject_duplicates shape) t) ∙ map_meant m (reads reject_duplicates shape) t
 
 -- one more entry
 
@@ -113,36 +113,36 @@ step i = omega arith
 
 pub node_bad : (i : ℕ) (es : Entries) (key : List ℕ) (n : Tree) → first_entry (entries_after i es) ≡ Some (Some (key, n)) → is_text n ≡ false → entries_are_text es ≡ false
 node_bad zero no_entries key n h bad = absurd cc
-node_bad zero (entry k mark t es) key n h bad =
+node_bad zero (entry k escaped t es) key n h bad =
     let here : is_text t ≡ false = ap is_text (same_node (is_utf8 (segment_text k)) (segment_text k) key t n h) ∙ bad in
     and_left (is_utf8 (segment_text k) && is_text t) (entries_are_text es) (and_right (is_utf8 (segment_text k)) (is_text t) here)
 node_bad (suc i) no_entries key n h bad = absurd cc
-node_bad (suc i) (entry k mark t es) key n h bad = and_right (is_utf8 (segment_text k) && is_text t) (entries_are_text es) (node_bad i es key n h bad)
+node_bad (suc i) (entry k escaped t es) key n h bad = and_right (is_utf8 (segment_text k) && is_text t) (entries_are_text es) (node_bad i es key n h bad)
 
 module _ {V : Type 0} (r : Tree → Option V) where
   pub entry_more : (i : ℕ) (es : Entries) (f : List ℕ → Option V) (key : List ℕ) (n : Tree) → first_entry (entries_after i es) ≡ Some (Some (key, n))
       → entries_onto r f (entries_after i es) ≡ option_and_then (λ v. entries_onto r (with_value key v f) (entries_after (i + 1) es)) (r n)
   entry_more zero no_entries f key n h = absurd cc
-  entry_more zero (entry k mark t es) f key n h =
+  entry_more zero (entry k escaped t es) f key n h =
       let b = is_utf8 (segment_text k) in
       let x : (List ℕ → Tree → Option (List ℕ → Option V)) = λ q u. option_and_then (λ v. entries_onto r (with_value q v f) es) (r u) in
       given_key b (segment_text k) key t n (x (segment_text k) t) None h
       ∙ ap (λ q. x q t) (same_key b (segment_text k) key t n h)
       ∙ ap (x key) (same_node b (segment_text k) key t n h)
   entry_more (suc i) no_entries f key n h = absurd cc
-  entry_more (suc i) (entry k mark t es) f key n h =
-      entry_more i es f key n h ∙ ap (λ j. option_and_then (λ v. entries_onto r (with_value key v f) (entries_after j (entry k mark t es))) (r n)) (sym (step i))
+  entry_more (suc i) (entry k escaped t es) f key n h =
+      entry_more i es f key n h ∙ ap (λ j. option_and_then (λ v. entries_onto r (with_value key v f) (entries_after j (entry k escaped t es))) (r n)) (sym (step i))
 
   pub entry_rejected : (es : Entries) (f : List ℕ → Option V) → first_entry es ≡ None → entries_onto r f es ≡ None
   entry_rejected no_entries f h = absurd cc
-  entry_rejected (entry k mark t es) f h = no_key (is_utf8 (segment_text k)) (segment_text k) t _ h
+  entry_rejected (entry k escaped t es) f h = no_key (is_utf8 (segment_text k)) (segment_text k) t _ h
 
   pub entry_end : (es : Entries) (f : List ℕ → Option V) → first_entry es ≡ Some None → entries_onto r f es ≡ Some f
   entry_end no_entries f h = refl
-  entry_end (entry k mark t es) f h = absurd (one_key (is_utf8 (segment_text k)) (segment_text k) t h)
+  entry_end (entry k escaped t es) f h = absurd (one_key (is_utf8 (segment_text k)) (segment_text k) t h)
 
   pub entry_all : (i : ℕ) (es : Entries) (f : List ℕ → Option V) → length (entry_list es) ≤ i → entries_onto r f (entries_after i es) ≡ Some f
   entry_all zero no_entries f h = refl
-  entry_all zero (entry k mark t es) f h = absurd (omega arith)
+  entry_all zero (entry k escaped t es) f h = absurd (omega arith)
   entry_all (suc i) no_entries f h = refl
-  entry_all (suc i) (entry k mark t es) f h = entry_all i es f (omega arith)
+  entry_all (suc i) (entry k escaped t es) f h = entry_all i es f (omega arith)

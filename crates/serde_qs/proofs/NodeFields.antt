@@ -20,7 +20,7 @@ use Rattle.serde_qs.specs.FieldTypes.{absent, is_first_named, keyless}
 use Rattle.serde_qs.specs.Meaning.{both}
 use Rattle.serde_qs.specs.Nodes.{by_names, by_places, missing_data}
 use Rattle.serde_qs.specs.internal.NodeParts.{value_found, value_placed}
-use Rattle.serde_qs.specs.Records.{field_form, field_in, first_of, others_of}
+use Rattle.serde_qs.specs.Records.{field_shape, field_in, first_of, others_of}
 use Rattle.serde_qs.specs.internal.Booleans.{both_hold}
 use Rattle.serde_qs.specs.internal.FieldTypes.{itself_named, later_named, other_field}
 
@@ -102,30 +102,30 @@ module _ {A B : Type 0} (m : Data → Option A) (others : List (List ℕ) → Me
 
 -- the same by the names that a function has split
 
-module _ {A B : Type 0} (missing : Option (Option A)) (m : Data → Option A) (others : List (List ℕ) → Members → Option B) (reject_duplicates : Bool) (s : Shape) (form : List (List ℕ) → List Field) (names : List (List ℕ))
-    (name : List ℕ) (rest : List (List ℕ)) (is_first : name ≡ first_of names) (are_others : rest ≡ others_of names) (differ : field_names_differ (fields_of (field_form s (is_some missing) form names)) ≡ true) where
+module _ {A B : Type 0} (missing : Option (Option A)) (m : Data → Option A) (others : List (List ℕ) → Members → Option B) (reject_duplicates : Bool) (s : Shape) (shape : List (List ℕ) → List Field) (names : List (List ℕ))
+    (name : List ℕ) (rest : List (List ℕ)) (is_first : name ≡ first_of names) (are_others : rest ≡ others_of names) (differ : field_names_differ (fields_of (field_shape s (is_some missing) shape names)) ≡ true) where
   -- the first name is none of the others, and these differ too
-  names_differ : (not (is_field_name (first_of names) (fields_of (form (others_of names)))) ≡ true) × (field_names_differ (fields_of (form (others_of names))) ≡ true)
-  names_differ = both_hold (not (is_field_name (first_of names) (fields_of (form (others_of names))))) (field_names_differ (fields_of (form (others_of names)))) differ
+  names_differ : (not (is_field_name (first_of names) (fields_of (shape (others_of names)))) ≡ true) × (field_names_differ (fields_of (shape (others_of names))) ≡ true)
+  names_differ = both_hold (not (is_field_name (first_of names) (fields_of (shape (others_of names))))) (field_names_differ (fields_of (shape (others_of names)))) differ
 
-  pub others_differ : field_names_differ (fields_of (form rest)) ≡ true
-  others_differ = ap (λ ns. field_names_differ (fields_of (form ns))) are_others ∙ names_differ.1
+  pub others_differ : field_names_differ (fields_of (shape rest)) ≡ true
+  others_differ = ap (λ ns. field_names_differ (fields_of (shape ns))) are_others ∙ names_differ.1
 
-  pub field_by_name : (es : Entries) → by_names reject_duplicates (field_form s (is_some missing) form names) (field_in (absent missing) m others names) es
-      ≡ both (value_found m (keyless m (missing_data s) missing) (reads reject_duplicates s) (found name es)) (by_names reject_duplicates (form rest) (others rest) es)
+  pub field_by_name : (es : Entries) → by_names reject_duplicates (field_shape s (is_some missing) shape names) (field_in (absent missing) m others names) es
+      ≡ both (value_found m (keyless m (missing_data s) missing) (reads reject_duplicates s) (found name es)) (by_names reject_duplicates (shape rest) (others rest) es)
   unfolding reads
   field_by_name es =
-      let fs = form (others_of names) in
+      let fs = shape (others_of names) in
       by_name m others names (reads_names reject_duplicates (fields_of fs) es) (fields_of fs) names_differ.0 (names_named reject_duplicates fs es) missing (is_option s) (reads reject_duplicates s) (found (first_of names) es)
-      ∙ ap₂ (λ n ns. both (value_found m (keyless m (missing_data s) missing) (reads reject_duplicates s) (found n es)) (by_names reject_duplicates (form ns) (others ns) es)) (sym is_first) (sym are_others)
+      ∙ ap₂ (λ n ns. both (value_found m (keyless m (missing_data s) missing) (reads reject_duplicates s) (found n es)) (by_names reject_duplicates (shape ns) (others ns) es)) (sym is_first) (sym are_others)
 
-  pub field_by_place : (xs : Items) → by_places reject_duplicates (field_form s (is_some missing) form names) (field_in (absent missing) m others names) xs
-      ≡ both (value_placed m (absent missing) (reads reject_duplicates s) xs) (by_places reject_duplicates (form rest) (others rest) (items_after xs))
+  pub field_by_place : (xs : Items) → by_places reject_duplicates (field_shape s (is_some missing) shape names) (field_in (absent missing) m others names) xs
+      ≡ both (value_placed m (absent missing) (reads reject_duplicates s) xs) (by_places reject_duplicates (shape rest) (others rest) (items_after xs))
   unfolding reads
   field_by_place xs =
-      let fs = form (others_of names) in
+      let fs = shape (others_of names) in
       by_place m others names (reads_places reject_duplicates (fields_of fs) (items_after xs)) (fields_of fs) names_differ.0 (places_named reject_duplicates fs (items_after xs)) missing (reads reject_duplicates s) xs
-      ∙ ap (λ ns. both (value_placed m (absent missing) (reads reject_duplicates s) xs) (by_places reject_duplicates (form ns) (others ns) (items_after xs))) (sym are_others)
+      ∙ ap (λ ns. both (value_placed m (absent missing) (reads reject_duplicates s) xs) (by_places reject_duplicates (shape ns) (others ns) (items_after xs))) (sym are_others)
 
 -- of what was read of the first field and of the others
 

@@ -50,9 +50,9 @@ module _ {V : Type 0} (m : Data → Option V) (r : Reader) where
   unfolding read_list
   list_meant t = in_sequence (read_list r t) ∙ all_meant (items t)
 
-pub sequence_read : {V : Type 0} (m : Data → Option V) (reject_duplicates : Bool) (form : Shape) (t : Tree) → option_and_then (sequence_in m) (reads reject_duplicates (Shape.sequence form) t) ≡ option_and_then (each_value (λ n. option_and_then m (reads reject_duplicates form n))) (items t)
+pub sequence_read : {V : Type 0} (m : Data → Option V) (reject_duplicates : Bool) (shape : Shape) (t : Tree) → option_and_then (sequence_in m) (reads reject_duplicates (Shape.sequence shape) t) ≡ option_and_then (each_value (λ n. option_and_then m (reads reject_duplicates shape n))) (items t)
 unfolding reads
-sequence_read m reject_duplicates form t = list_meant m (reads reject_duplicates form) t
+sequence_read m reject_duplicates shape t = list_meant m (reads reject_duplicates shape) t
 
 -- one more item of a list
 module _ {V : Type 0} (r : Tree → Option V) (xs : List (Option Tree)) (i : ℕ) (ws : List V) where

@@ -19,7 +19,7 @@ use Rattle.qs_data.proofs.lemmas.read.Errors.{and_left}
 use Rattle.serde_qs.specs.Held.{by_shapes, kind_held, variant_held}
 use Rattle.serde_qs.specs.Records.{first_of, others_of}
 use Rattle.serde_qs.specs.Tuples.{tuple_variant_in}
-use Rattle.serde_qs.specs.Variants.{last_form, last_in, name_in, newtype_variant_in, struct_variant_in, unit_variant_in, variant_form, variant_in}
+use Rattle.serde_qs.specs.Variants.{last_shape, last_in, name_in, newtype_variant_in, struct_variant_in, unit_variant_in, variant_shape, variant_in}
 use Rattle.serde_qs.specs.declared.compound.variants.OneOf.TheVariants.{First, Later}
 use Rattle.serde_qs.specs.internal.NodeParts.{members_read}
 use Rattle.serde_qs.proofs.NodeTuples.{tuple_items}
@@ -97,7 +97,7 @@ module _ {A : Type 0} (m : List (List ℕ) → Data → Option A) (kind : List (
   at_names : held ≡ option_and_then (m (others_of names)) (kind_held reject_duplicates (kind (others_of names)) (first_of names) o)
   at_names = ap (λ ns. option_and_then (m ns) (kind_held reject_duplicates (kind ns) own o)) are_others ∙ ap (λ n. option_and_then (m (others_of names)) (kind_held reject_duplicates (kind (others_of names)) n o)) is_first
 
-  pub last_here : bytes_eq own name ≡ true → option_and_then (last_in m names) (variant_held reject_duplicates (variants_of (last_form kind names)) name o) ≡ held
+  pub last_here : bytes_eq own name ≡ true → option_and_then (last_in m names) (variant_held reject_duplicates (variants_of (last_shape kind names)) name o) ≡ held
   last_here is =
       let n = first_of names in
       let k = kind (others_of names) in
@@ -105,39 +105,39 @@ module _ {A : Type 0} (m : List (List ℕ) → Data → Option A) (kind : List (
       ∙ tested (kind_held reject_duplicates k n o) n n true (own_name n) (kind_named reject_duplicates k n o) (m (others_of names)) (λ x. None)
       ∙ sym at_names
 
-  pub last_other : bytes_eq own name ≡ false → option_and_then (last_in m names) (variant_held reject_duplicates (variants_of (last_form kind names)) name o) ≡ None
+  pub last_other : bytes_eq own name ≡ false → option_and_then (last_in m names) (variant_held reject_duplicates (variants_of (last_shape kind names)) name o) ≡ None
   last_other not =
       let n = first_of names in
       let k = kind (others_of names) in
       ap (option_and_then (last_in m names)) (held_one reject_duplicates n k no_variants name o ∙ ap (λ b. cond b (kind_held reject_duplicates k n o) (variant_held reject_duplicates no_variants name o)) (sym same ∙ not) ∙ held_none reject_duplicates name o)
 
-  module _ {B : Type 0} (after : List (List ℕ) → List (List ℕ)) (form : List (List ℕ) → List Variant) (others : List (List ℕ) → Data → Option B) (more : List (List ℕ)) (are_more : more ≡ after rest) where
+  module _ {B : Type 0} (after : List (List ℕ) → List (List ℕ)) (shape : List (List ℕ) → List Variant) (others : List (List ℕ) → Data → Option B) (more : List (List ℕ)) (are_more : more ≡ after rest) where
     abbrev pub later_held : Option B
-    later_held = option_and_then (others more) (variant_held reject_duplicates (variants_of (form more)) name o)
+    later_held = option_and_then (others more) (variant_held reject_duplicates (variants_of (shape more)) name o)
 
     are_after : more ≡ after (others_of names)
     are_after = are_more ∙ ap after are_others
 
-    pub first_here : bytes_eq own name ≡ true → option_and_then (variant_in m after others names) (variant_held reject_duplicates (variants_of (variant_form kind after form names)) name o) ≡ option_map First held
+    pub first_here : bytes_eq own name ≡ true → option_and_then (variant_in m after others names) (variant_held reject_duplicates (variants_of (variant_shape kind after shape names)) name o) ≡ option_map First held
     first_here is =
         let n = first_of names in
         let k = kind (others_of names) in
-        let vs = variants_of (form (after (others_of names))) in
+        let vs = variants_of (shape (after (others_of names))) in
         ap (option_and_then (variant_in m after others names)) (held_one reject_duplicates n k vs name o ∙ ap (λ b. cond b (kind_held reject_duplicates k n o) (variant_held reject_duplicates vs name o)) (sym same ∙ is))
         ∙ tested (kind_held reject_duplicates k n o) n n true (own_name n) (kind_named reject_duplicates k n o) (λ x. option_map First (m (others_of names) x)) (λ x. option_map Later (others (after (others_of names)) x))
         ∙ mapped First (m (others_of names)) (kind_held reject_duplicates k n o)
         ∙ ap (option_map First) (sym at_names)
 
-    pub first_other : bytes_eq own name ≡ false → option_and_then (variant_in m after others names) (variant_held reject_duplicates (variants_of (variant_form kind after form names)) name o) ≡ option_map Later later_held
+    pub first_other : bytes_eq own name ≡ false → option_and_then (variant_in m after others names) (variant_held reject_duplicates (variants_of (variant_shape kind after shape names)) name o) ≡ option_map Later later_held
     first_other not =
         let n = first_of names in
         let k = kind (others_of names) in
-        let vs = variants_of (form (after (others_of names))) in
+        let vs = variants_of (shape (after (others_of names))) in
         let differ : bytes_eq n name ≡ false = sym same ∙ not in
         ap (option_and_then (variant_in m after others names)) (held_one reject_duplicates n k vs name o ∙ ap (λ b. cond b (kind_held reject_duplicates k n o) (variant_held reject_duplicates vs name o)) differ)
         ∙ tested (variant_held reject_duplicates vs name o) n name false (swapped n name differ) (held_named reject_duplicates vs name o) (λ x. option_map First (m (others_of names) x)) (λ x. option_map Later (others (after (others_of names)) x))
         ∙ mapped Later (others (after (others_of names))) (variant_held reject_duplicates vs name o)
-        ∙ ap (λ ns. option_map Later (option_and_then (others ns) (variant_held reject_duplicates (variants_of (form ns)) name o))) (sym are_after)
+        ∙ ap (λ ns. option_map Later (option_and_then (others ns) (variant_held reject_duplicates (variants_of (shape ns)) name o))) (sym are_after)
 
 -- what each kind of variant holds
 
@@ -157,11 +157,11 @@ unfolding reads
 newtype_held m reject_duplicates s n None = refl
 newtype_held m reject_duplicates s n (Some t) = inside (d.newtype_variant n) (newtype_variant_in m) m (λ x. refl) (reads reject_duplicates s t)
 
-pub tuple_held : {V : Type 0} (m : Values → Option V) (reject_duplicates : Bool) (form : List Shape) (n : List ℕ) (o : Option Tree)
-    → option_and_then (tuple_variant_in m) (kind_held reject_duplicates (tuple_kind (shapes_of form)) n o) ≡ option_and_then (by_shapes reject_duplicates form m) (option_and_then items o)
+pub tuple_held : {V : Type 0} (m : Values → Option V) (reject_duplicates : Bool) (shape : List Shape) (n : List ℕ) (o : Option Tree)
+    → option_and_then (tuple_variant_in m) (kind_held reject_duplicates (tuple_kind (shapes_of shape)) n o) ≡ option_and_then (by_shapes reject_duplicates shape m) (option_and_then items o)
 unfolding reads
-tuple_held m reject_duplicates form n None = refl
-tuple_held m reject_duplicates form n (Some t) = tuple_items (tuple_variant_in m) (d.tuple_variant n) m (λ ds. refl) reject_duplicates form (items t)
+tuple_held m reject_duplicates shape n None = refl
+tuple_held m reject_duplicates shape n (Some t) = tuple_items (tuple_variant_in m) (d.tuple_variant n) m (λ ds. refl) reject_duplicates shape (items t)
 
 pub struct_held : {V : Type 0} (m : Members → Option V) (u : UnknownKeys) (reject_duplicates : Bool) (fs : List Field) (n : List ℕ) (o : Option Tree)
     → option_and_then (struct_variant_in m) (kind_held reject_duplicates (struct_kind u (fields_of fs)) n o) ≡ option_and_then (λ t. members_read u reject_duplicates fs m (as_map t)) o
@@ -174,9 +174,9 @@ struct_held m u reject_duplicates fs n (Some t) =
 -- an enum, by the text of a node, and by the smallest key of a map
 
 module _ (reject_duplicates : Bool) (vs : Variants) where
-  pub enum_of_key : (es more : Entries) (k : Segment) (mark : Bool) (t : Tree) → es ≡ entry k mark t more → reads reject_duplicates (Shape.enumeration vs) (mapping es) ≡ reads_variant reject_duplicates vs (segment_text k) t
+  pub enum_of_key : (es more : Entries) (k : Segment) (escaped : Bool) (t : Tree) → es ≡ entry k escaped t more → reads reject_duplicates (Shape.enumeration vs) (mapping es) ≡ reads_variant reject_duplicates vs (segment_text k) t
   unfolding reads read_enum
-  enum_of_key es more k mark t least = ap (λ ys. reads reject_duplicates (Shape.enumeration vs) (mapping ys)) least
+  enum_of_key es more k escaped t least = ap (λ ys. reads reject_duplicates (Shape.enumeration vs) (mapping ys)) least
 
-pub key_not_text : (es more : Entries) (k : Segment) (mark : Bool) (t : Tree) → es ≡ entry k mark t more → (is_utf8 (segment_text k) && is_text t) ≡ false → entries_are_text es ≡ false
-key_not_text es more k mark t least f = ap entries_are_text least ∙ and_left (is_utf8 (segment_text k) && is_text t) (entries_are_text more) f
+pub key_not_text : (es more : Entries) (k : Segment) (escaped : Bool) (t : Tree) → es ≡ entry k escaped t more → (is_utf8 (segment_text k) && is_text t) ≡ false → entries_are_text es ≡ false
+key_not_text es more k escaped t least f = ap entries_are_text least ∙ and_left (is_utf8 (segment_text k) && is_text t) (entries_are_text more) f

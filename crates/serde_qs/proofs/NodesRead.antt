@@ -23,24 +23,24 @@ pub meant : {A V : Type 0} (meaning : A → Option V) (r : Option A) (v : V) →
 meant meaning None v h = absurd cc
 meant meaning (Some d) v h = record { datum = d; here = refl; means = h }
 
-module _ {X V : Type 0} (view : X → V) (config : Config) (form : Shape) (meaning : Data → Option V) (input : List ℕ) (tree : Tree)
-    (dist : is_distinct form ≡ true) (has_tree : IsTree config.form config.max_depth input tree) where
+module _ {X V : Type 0} (view : X → V) (config : Config) (shape : Shape) (meaning : Data → Option V) (input : List ℕ) (tree : Tree)
+    (dist : is_distinct shape ≡ true) (has_tree : IsTree config.is_form config.max_depth input tree) where
   abbrev reject_duplicates : Bool
   reject_duplicates = are_rejected config.duplicates
 
-  unread : option_and_then meaning (reads reject_duplicates form tree) ≡ None → IsUnread config form meaning input
+  unread : option_and_then meaning (reads reject_duplicates shape tree) ≡ None → IsUnread config shape meaning input
   unread none = record {
     tree = tree;
     has_tree = has_tree;
     is_unread = λ d r. sym (ap (option_and_then meaning) (sound reject_duplicates dist r)) ∙ none;
   }
 
-  read : (v : V) → option_and_then meaning (reads reject_duplicates form tree) ≡ Some v → IsRead config form meaning input v
+  read : (v : V) → option_and_then meaning (reads reject_duplicates shape tree) ≡ Some v → IsRead config shape meaning input v
   read v h =
-      let m = meant meaning (reads reject_duplicates form tree) v h in
-      record { tree = tree; datum = m.datum; has_tree = has_tree; is_read = related reject_duplicates form tree m.datum m.here; is_meant = m.means }
+      let m = meant meaning (reads reject_duplicates shape tree) v h in
+      record { tree = tree; datum = m.datum; has_tree = has_tree; is_read = related reject_duplicates shape tree m.datum m.here; is_meant = m.means }
 
-  pub returns_value : (result : Result X Error) → ReadsNode view form meaning reject_duplicates tree result → ReturnsValue view config form meaning input result
+  pub returns_value : (result : Result X Error) → ReadsNode view shape meaning reject_duplicates tree result → ReturnsValue view config shape meaning input result
   returns_value (Ok x) g = read (view x) g
   returns_value (Err (Custom message)) g = unread g
   returns_value (Err (Utf8 cause)) g = (unread g.0, (tree, has_tree, g.1))

@@ -39,7 +39,7 @@ module _ (config : Config) (x : Data) (start last : Writer) (fresh : IsFresh con
       subst Q fresh.state (subst P fresh.settings p.writes [] fresh.top)
 
   -- the text is that of the data
-  text_shown : (bytes : List ℕ) → Some bytes ≡ (state_of last).taken → Adds config.form start_of (state_of last) (entries config x).entries → (bytes ≡ text_of config x) × All IsVisible bytes
+  text_shown : (bytes : List ℕ) → Some bytes ≡ (state_of last).taken → Adds config.is_form start_of (state_of last) (entries config x).entries → (bytes ≡ text_of config x) × All IsVisible bytes
   text_shown bytes taken adds =
       let same : bytes ≡ text_of config x = some_bytes bytes last.stream.sink.writer.items taken ∙ adds.text in
       (same, subst (All IsVisible) (sym same) adds.visible)
@@ -94,7 +94,7 @@ module _ (config : Config) (x : Data) (start last : Writer) (fresh : IsFresh con
   part_put _ shown io part = absurd io
 
   -- the text was put, or a beginning of it
-  text_put : (made r : Result (Unit {0}) Error) → Puts bytes made old new r → Adds config.form start_of (state_of last) (entries config x).entries
+  text_put : (made r : Result (Unit {0}) Error) → Puts bytes made old new r → Adds config.is_form start_of (state_of last) (entries config x).entries
       → (Appends old new bytes → All IsVisible bytes → Appends old new (text_of config x) → WritesValue config x old new made) → WritesValue config x old new r
   text_put made r (inl all) adds done =
       let shown = text_shown config x start last fresh bytes taken adds in

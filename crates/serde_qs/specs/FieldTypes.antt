@@ -20,21 +20,21 @@ keyless m d (Some v) = v
 
 -- Plain data fits the shape, and only a field that may be missing has none.
 abbrev pub DatumFits : Bool → Shape → Bool → Option Data → Type 0
-DatumFits mode s optional None = optional ≡ true
-DatumFits mode s optional (Some x) = is_plain mode x ≡ true → fits s x ≡ true
+DatumFits is_form s optional None = optional ≡ true
+DatumFits is_form s optional (Some x) = is_plain is_form x ≡ true → fits s x ≡ true
 
 -- Data that is the same as plain data means the value, and if there is none, it is the value of a missing field.
 abbrev pub DatumComesBack : {V : Type 0} → Bool → (Data → Option V) → Option V → V → Option Data → Type 0
-DatumComesBack mode m missing v None = missing ≡ Some v
-DatumComesBack mode m missing v (Some x) = (e : Data) → is_plain mode x ≡ true → Same x e → m e ≡ Some v
+DatumComesBack is_form m missing v None = missing ≡ Some v
+DatumComesBack is_form m missing v (Some x) = (e : Data) → is_plain is_form x ≡ true → Same x e → m e ≡ Some v
 
 -- each value of a field's type
 
 abbrev pub FieldFits : {A : Type 0} → (A → Option Data) → Shape → Bool → Type 0
-FieldFits {A} datum s optional = (mode : Bool) (x : A) → DatumFits mode s optional (datum x)
+FieldFits {A} datum s optional = (is_form : Bool) (x : A) → DatumFits is_form s optional (datum x)
 
 abbrev pub FieldComesBack : {A V : Type 0} → (A → Option Data) → (Data → Option V) → Option V → (A → V) → Type 0
-FieldComesBack {A} datum m missing value = (mode : Bool) (x : A) → DatumComesBack mode m missing (value x) (datum x)
+FieldComesBack {A} datum m missing value = (is_form : Bool) (x : A) → DatumComesBack is_form m missing (value x) (datum x)
 
 -- the first member, if there is one, has the name of a field
 abbrev pub is_first_named : Fields → Members → Bool
@@ -43,4 +43,4 @@ is_first_named fs (one_member k d ms) = is_field_name k fs
 
 -- what is written begins with a field
 abbrev pub FieldsAreNamed : {A : Type 0} → (List (List ℕ) → List Field) → (List (List ℕ) → A → List Named) → Type 0
-FieldsAreNamed {A} form written = (names : List (List ℕ)) (x : A) → is_first_named (fields_of (form names)) (members_of (written names x)) ≡ true
+FieldsAreNamed {A} shape written = (names : List (List ℕ)) (x : A) → is_first_named (fields_of (shape names)) (members_of (written names x)) ≡ true

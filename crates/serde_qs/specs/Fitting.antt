@@ -16,4 +16,4 @@ only_where b x = if b then x else misfit
 
 -- this data, if it fits the shape, as the data of every value of a program does
 abbrev pub fitting : Shape → Data → Data
-fitting form x = only_where (fits form x) x
+fitting shape x = only_where (fits shape x) x

@@ -17,7 +17,7 @@ pub mod Typed
 pub mod Nodes
 pub mod Held
 pub mod Sources
-pub mod Exits
+pub mod Destinations
 pub mod Explained
 pub mod WrittenText
 pub mod Wrappers

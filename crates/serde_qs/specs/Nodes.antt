@@ -12,7 +12,7 @@ use Rattle.qs_spec.specs.Tree.{Tree, Entries, Items}
 -- are rejected. An error is returned exactly if there is no such data or it means nothing, and a Utf8 error only if not all of the node is
 -- text.
 abbrev pub ReadsNode : {X V : Type 0} → (X → V) → Shape → (Data → Option V) → Bool → Tree → Result X Error → Type 0
-ReadsNode view form meaning reject_duplicates node result = Gives view (is_text node) result (option_and_then meaning (reads reject_duplicates form node))
+ReadsNode view shape meaning reject_duplicates node result = Gives view (is_text node) result (option_and_then meaning (reads reject_duplicates shape node))
 
 -- the data of a field that has no key: `none`, if its shape is an option
 abbrev pub missing_data : Shape → Option Data

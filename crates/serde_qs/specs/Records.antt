@@ -30,8 +30,8 @@ others_of [] = []
 others_of (n ∷ names) = names
 
 -- the first field by the first name, in front of the others by their names; and its data, unless it is left out, in front of theirs
-abbrev pub field_form : Shape → Bool → (List (List ℕ) → List Field) → List (List ℕ) → List Field
-field_form s optional rest names = (first_of names, s, optional) ∷ rest (others_of names)
+abbrev pub field_shape : Shape → Bool → (List (List ℕ) → List Field) → List (List ℕ) → List Field
+field_shape s optional rest names = (first_of names, s, optional) ∷ rest (others_of names)
 
 abbrev pub field_data : Option v.Data → (List (List ℕ) → List Named) → List (List ℕ) → List Named
 field_data None rest names = rest (others_of names)

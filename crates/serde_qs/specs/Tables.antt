@@ -32,49 +32,49 @@ pub record Table (A : Type 0) : Type 1 where
   pub Value : Type 0
   pub value : A → Value
   pub datum : A → Data
-  pub form : Shape
+  pub shape : Shape
   pub meaning : Data → Option Value
-  pub distinct : is_distinct form ≡ true
-  pub fit : DataFit datum form
+  pub distinct : is_distinct shape ≡ true
+  pub fit : DataFit datum shape
   pub comes_back : ComesBack datum meaning value
 
 -- a table of these
-abbrev pub table_with : {A V : Type 0} (value : A → V) (datum : A → Data) (form : Shape) (meaning : Data → Option V) → is_distinct form ≡ true → DataFit datum form
+abbrev pub table_with : {A V : Type 0} (value : A → V) (datum : A → Data) (shape : Shape) (meaning : Data → Option V) → is_distinct shape ≡ true → DataFit datum shape
     → ComesBack datum meaning value → Table A
-table_with {A} {V} value datum form meaning distinct fit back =
-    record { Value = V; value = value; datum = datum; form = form; meaning = meaning; distinct = distinct; fit = fit; comes_back = back }
+table_with {A} {V} value datum shape meaning distinct fit back =
+    record { Value = V; value = value; datum = datum; shape = shape; meaning = meaning; distinct = distinct; fit = fit; comes_back = back }
 
 -- a table of these, for values whose data fits the shape
-abbrev pub table_of : {A V : Type 0} (value : A → V) (datum : A → Data) (form : Shape) (meaning : Data → Option V) → is_distinct form ≡ true
-    → ((x : A) (e : Data) → fits form (datum x) ≡ true → Same (datum x) e → meaning e ≡ Some (value x)) → Table A
-table_of value datum form meaning distinct back =
-    table_with value (λ x. fitting form (datum x)) form meaning distinct (fitting_fits datum form) (fitting_back value datum form meaning back)
+abbrev pub table_of : {A V : Type 0} (value : A → V) (datum : A → Data) (shape : Shape) (meaning : Data → Option V) → is_distinct shape ≡ true
+    → ((x : A) (e : Data) → fits shape (datum x) ≡ true → Same (datum x) e → meaning e ≡ Some (value x)) → Table A
+table_of value datum shape meaning distinct back =
+    table_with value (λ x. fitting shape (datum x)) shape meaning distinct (fitting_fits datum shape) (fitting_back value datum shape meaning back)
 
 -- a table whose data unfolds only on request
 abbrev pub closed : {A : Type 0} → Table A → Table A
 closed t =
-    table_with t.value (data_by t.datum) t.form t.meaning t.distinct (data_by_fit t.datum t.form t.fit) (data_by_back t.datum t.meaning t.value t.comes_back)
+    table_with t.value (data_by t.datum) t.shape t.meaning t.distinct (data_by_fit t.datum t.shape t.fit) (data_by_back t.datum t.meaning t.value t.comes_back)
 
 -- The table of a type that is only read. None of its values has plain data, so none has to come back.
-abbrev pub only_read : {A V : Type 0} (value : A → V) (form : Shape) (meaning : Data → Option V) → is_distinct form ≡ true → Table A
-only_read value form meaning distinct = table_with value (λ _. misfit) form meaning distinct (λ mode x h. absurd (not_plain mode h)) (λ mode x e h p. absurd (not_plain mode h))
+abbrev pub only_read : {A V : Type 0} (value : A → V) (shape : Shape) (meaning : Data → Option V) → is_distinct shape ≡ true → Table A
+only_read value shape meaning distinct = table_with value (λ _. misfit) shape meaning distinct (λ is_form x h. absurd (not_plain is_form h)) (λ is_form x e h p. absurd (not_plain is_form h))
 
 -- types of std that hold others
 
 abbrev pub option_table : {A : Type 0} → Table A → Table (Option A)
 option_table t =
-    table_with (option_map t.value) (option_data t.datum) (Shape.option t.form) (option_in t.meaning) t.distinct (option_fits t.datum t.form t.fit)
+    table_with (option_map t.value) (option_data t.datum) (Shape.option t.shape) (option_in t.meaning) t.distinct (option_fits t.datum t.shape t.fit)
     (option_back t.datum t.meaning t.value t.comes_back)
 
 abbrev pub sequence_table : {A : Type 0} → Table A → Table (Vec A Global)
 sequence_table t =
-    table_with (λ xs. map t.value xs.items) (λ xs. d.sequence (values_of (map t.datum xs.items))) (Shape.sequence t.form) (sequence_in t.meaning) t.distinct
-    (λ mode xs h. sequence_fits t.datum t.form t.fit mode xs.items h) (λ mode xs e h p. sequence_back t.datum t.meaning t.value t.comes_back mode xs.items e h p)
+    table_with (λ xs. map t.value xs.items) (λ xs. d.sequence (values_of (map t.datum xs.items))) (Shape.sequence t.shape) (sequence_in t.meaning) t.distinct
+    (λ is_form xs h. sequence_fits t.datum t.shape t.fit is_form xs.items h) (λ is_form xs e h p. sequence_back t.datum t.meaning t.value t.comes_back is_form xs.items e h p)
 
 abbrev pub mapping_table : {A : Type 0} → Table A → Table (BTreeMap (String Global) A)
 mapping_table t =
-    table_with (values_by_text t.value) (λ m. d.mapping (pairs_of (map (entry_data t.datum) m.entries))) (Shape.mapping s.KeyShape.text t.form) (mapping_in t.meaning) t.distinct
-    (λ mode m h. mapping_fits t.datum t.form t.fit mode m.entries h) (λ mode m e h p. mapping_back t.datum t.meaning t.value t.comes_back mode m e h p)
+    table_with (values_by_text t.value) (λ m. d.mapping (pairs_of (map (entry_data t.datum) m.entries))) (Shape.mapping s.KeyShape.text t.shape) (mapping_in t.meaning) t.distinct
+    (λ is_form m h. mapping_fits t.datum t.shape t.fit is_form m.entries h) (λ is_form m e h p. mapping_back t.datum t.meaning t.value t.comes_back is_form m e h p)
 
 -- Whole numbers, as the items of a list in one text. The text of each that is in range has no delimiter in it, and is parsed as that number.
 pub record Numbers (A : Type 0) : Type 1 where
@@ -93,8 +93,8 @@ numbers_of {A} {V} value in_range printed meaning back = record { Value = V; val
 abbrev pub delimited_table : {A D : Type 0} → Numbers A → (delimiter : ℕ) → is_number_delimiter delimiter ≡ true → Table (Delimited A D)
 delimited_table n delimiter free =
     table_with (λ list. map n.value list.items.items) (λ list. list_data n.in_range n.printed delimiter list.items.items) Shape.text (list_in n.meaning delimiter) refl
-    (λ mode list h. list_fits n.in_range n.meaning n.printed n.value n.come_back delimiter free mode list.items.items h)
-    (λ mode list e h p. list_comes_back n.in_range n.meaning n.printed n.value n.come_back delimiter free mode list.items.items e h p)
+    (λ is_form list h. list_fits n.in_range n.meaning n.printed n.value n.come_back delimiter free is_form list.items.items h)
+    (λ is_form list e h p. list_comes_back n.in_range n.meaning n.printed n.value n.come_back delimiter free is_form list.items.items e h p)
 
 -- They are a type's own, except for how a value is kept.
 pub record AreNumbersOf {A V : Type 0} (n : Numbers A) (value : A → V) (in_range : A → Bool) (printed : A → List ℕ) (meaning : List ℕ → Option V) : Type 0 where

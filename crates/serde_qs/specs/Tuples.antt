@@ -35,8 +35,8 @@ tuple_variant_in m _ = None
 
 -- if the data of items is plain, it fits their shapes
 abbrev pub ItemsFit : {A : Type 0} → List Shape → (A → List v.Data) → Type 0
-ItemsFit {A} form written = (mode : Bool) (x : A) → are_plain mode (values_of (written x)) ≡ true → fits_tuple (shapes_of form) (values_of (written x)) ≡ true
+ItemsFit {A} shape written = (is_form : Bool) (x : A) → are_plain is_form (values_of (written x)) ≡ true → fits_tuple (shapes_of shape) (values_of (written x)) ≡ true
 
 -- and from values that are the same as these, the items come back
 abbrev pub ItemsComeBack : {A V : Type 0} → (A → List v.Data) → (Values → Option V) → (A → V) → Type 0
-ItemsComeBack {A} written meaning value = (mode : Bool) (x : A) (es : Values) → are_plain mode (values_of (written x)) ≡ true → SameValues (values_of (written x)) es → meaning es ≡ Some (value x)
+ItemsComeBack {A} written meaning value = (is_form : Bool) (x : A) (es : Values) → are_plain is_form (values_of (written x)) ≡ true → SameValues (values_of (written x)) es → meaning es ≡ Some (value x)

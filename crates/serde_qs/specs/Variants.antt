@@ -75,11 +75,11 @@ each f g (Later y) = Later (g y)
 
 -- The first variant has the first name, followed by the names of its fields; `after` drops the fields' names.
 
-abbrev pub last_form : (List (List ℕ) → VariantKind) → List (List ℕ) → List Variant
-last_form kind names = (first_of names, kind (others_of names)) ∷ []
+abbrev pub last_shape : (List (List ℕ) → VariantKind) → List (List ℕ) → List Variant
+last_shape kind names = (first_of names, kind (others_of names)) ∷ []
 
-abbrev pub variant_form : (List (List ℕ) → VariantKind) → (List (List ℕ) → List (List ℕ)) → (List (List ℕ) → List Variant) → List (List ℕ) → List Variant
-variant_form kind after rest names = (first_of names, kind (others_of names)) ∷ rest (after (others_of names))
+abbrev pub variant_shape : (List (List ℕ) → VariantKind) → (List (List ℕ) → List (List ℕ)) → (List (List ℕ) → List Variant) → List (List ℕ) → List Variant
+variant_shape kind after rest names = (first_of names, kind (others_of names)) ∷ rest (after (others_of names))
 
 abbrev pub last_data : {A : Type 0} → (List ℕ → List (List ℕ) → A → Data) → List (List ℕ) → A → Data
 last_data written names x = written (first_of names) (others_of names) x
@@ -97,12 +97,12 @@ variant_in m after rest names x =
 -- a variant of a kind fits, and comes back
 
 abbrev pub KindFits : {A : Type 0} → (List (List ℕ) → VariantKind) → (List ℕ → List (List ℕ) → A → Data) → Type 0
-KindFits {A} form written = (mode : Bool) (n : List ℕ) (names : List (List ℕ)) (x : A)
-    → kind_differs (form names) ≡ true → kind_is_text (form names) ≡ true → is_plain mode (written n names x) ≡ true → fits_variant (Some (form names)) (written n names x) ≡ true
+KindFits {A} shape written = (is_form : Bool) (n : List ℕ) (names : List (List ℕ)) (x : A)
+    → kind_differs (shape names) ≡ true → kind_is_text (shape names) ≡ true → is_plain is_form (written n names x) ≡ true → fits_variant (Some (shape names)) (written n names x) ≡ true
 
 abbrev pub KindComesBack : {A V : Type 0} → (List (List ℕ) → VariantKind) → (List ℕ → List (List ℕ) → A → Data) → (List (List ℕ) → Data → Option V) → (A → V) → Type 0
-KindComesBack {A} form written meaning value = (mode : Bool) (n : List ℕ) (names : List (List ℕ)) (x : A) (e : Data)
-    → kind_differs (form names) ≡ true → is_plain mode (written n names x) ≡ true → Same (written n names x) e → meaning names e ≡ Some (value x)
+KindComesBack {A} shape written meaning value = (is_form : Bool) (n : List ℕ) (names : List (List ℕ)) (x : A) (e : Data)
+    → kind_differs (shape names) ≡ true → is_plain is_form (written n names x) ≡ true → Same (written n names x) e → meaning names e ≡ Some (value x)
 
 -- a variant that is written has the name that it was given, and the name of one of the variants
 
@@ -110,7 +110,7 @@ abbrev pub KindIsNamed : {A : Type 0} → (List ℕ → List (List ℕ) → A �
 KindIsNamed {A} written = (n : List ℕ) (names : List (List ℕ)) (x : A) → name_in (written n names x) ≡ n
 
 abbrev pub AreNamed : {A : Type 0} → (List (List ℕ) → List Variant) → (List (List ℕ) → A → Data) → Type 0
-AreNamed {A} form written = (names : List (List ℕ)) (x : A) → is_variant_name (name_in (written names x)) (variants_of (form names)) ≡ true
+AreNamed {A} shape written = (names : List (List ℕ)) (x : A) → is_variant_name (name_in (written names x)) (variants_of (shape names)) ≡ true
 
 -- an enum fits, and comes back
 
@@ -119,17 +119,17 @@ abbrev pub fits_one_of : Variants → Data → Bool
 fits_one_of vs x = is_utf8 (name_in x) && fits_variant (variant_kind (name_in x) vs) x
 
 abbrev pub VariantsFit : {A : Type 0} → (List (List ℕ) → List Variant) → (List (List ℕ) → A → Data) → Type 0
-VariantsFit {A} form written = (mode : Bool) (names : List (List ℕ)) (x : A) → variants_differ (variants_of (form names)) ≡ true → variants_are_text (variants_of (form names)) ≡ true
-    → is_plain mode (written names x) ≡ true → fits_one_of (variants_of (form names)) (written names x) ≡ true
+VariantsFit {A} shape written = (is_form : Bool) (names : List (List ℕ)) (x : A) → variants_differ (variants_of (shape names)) ≡ true → variants_are_text (variants_of (shape names)) ≡ true
+    → is_plain is_form (written names x) ≡ true → fits_one_of (variants_of (shape names)) (written names x) ≡ true
 
 abbrev pub VariantsComeBack : {A V : Type 0} → (List (List ℕ) → List Variant) → (List (List ℕ) → A → Data) → (List (List ℕ) → Data → Option V) → (A → V) → Type 0
-VariantsComeBack {A} form written meaning value = (mode : Bool) (names : List (List ℕ)) (x : A) (e : Data)
-    → variants_differ (variants_of (form names)) ≡ true → is_plain mode (written names x) ≡ true → Same (written names x) e → meaning names e ≡ Some (value x)
+VariantsComeBack {A} shape written meaning value = (is_form : Bool) (names : List (List ℕ)) (x : A) (e : Data)
+    → variants_differ (variants_of (shape names)) ≡ true → is_plain is_form (written names x) ≡ true → Same (written names x) e → meaning names e ≡ Some (value x)
 
 -- if the names differ, the shape is distinct
 
 abbrev pub KindIsDistinct : (List (List ℕ) → VariantKind) → Type 0
-KindIsDistinct form = (names : List (List ℕ)) → kind_differs (form names) ≡ true → is_distinct_kind (form names) ≡ true
+KindIsDistinct shape = (names : List (List ℕ)) → kind_differs (shape names) ≡ true → is_distinct_kind (shape names) ≡ true
 
 abbrev pub AreDistinct : (List (List ℕ) → List Variant) → Type 0
-AreDistinct form = (names : List (List ℕ)) → variants_differ (variants_of (form names)) ≡ true → is_distinct (Shape.enumeration (variants_of (form names))) ≡ true
+AreDistinct shape = (names : List (List ℕ)) → variants_differ (variants_of (shape names)) ≡ true → is_distinct (Shape.enumeration (variants_of (shape names))) ≡ true

@@ -15,11 +15,11 @@ use Rattle.qs_spec.specs.Written.{written}
 
 -- the querystring of data: the text of its entries
 abbrev pub text_of : Config → Data → List ℕ
-text_of config x = written config.form false (entries config x).entries
+text_of config x = written config.is_form false (entries config x).entries
 
 -- the text of the first k of them
 abbrev pub text_of_first : ℕ → Config → Data → List ℕ
-text_of_first k config x = written config.form false (take k (entries config x).entries)
+text_of_first k config x = written config.is_form false (take k (entries config x).entries)
 
 -- the whole text, of visible bytes, exactly if nothing is rejected; otherwise the error, or that an allocation failed
 abbrev pub ReturnsText : Config → Data → Result (String Global) Error → Type 0

@@ -1,40 +1,46 @@
 //! Structs and enums by what they are made of.
 
+#![tactic(auto, unfolding(crate::specs::Compound::data_by))]
+
+mod data_parts;
 mod defaulted;
 mod defaults;
+mod destination;
 mod field_types;
 mod fields;
 mod items;
 mod nodes;
 mod optional;
-mod out;
-mod own;
 mod parts;
 mod payloads;
 mod references;
+mod round_trip;
 mod source;
 mod structs;
 pub(crate) mod trace;
 mod variants;
-mod written;
 
 ghost use Rattle.std.specs.Prelude.{◌≡◌, true, IfOk, refl};
 ghost use Rattle.qs_tree.specs.Error.{OnlyOutOfMemory};
 ghost use Rattle.qs_data.specs.shape.Views.{shape_of};
 ghost use Rattle.serde_qs.specs.Compound.{data_by};
-ghost use Rattle.serde_qs.specs.Exits.{Takes};
+ghost use Rattle.serde_qs.specs.Destinations.{Takes};
 ghost use Rattle.serde_qs.specs.Tables.{Table, closed};
 ghost use Rattle.qs_spec.specs.Shape.{is_distinct};
 ghost use Rattle.serde_qs.specs.Sources.{ReadsSource};
 
 use crate::path::Path;
 use crate::traits::{Deserialize, RoundTrip, Serialize};
+pub use data_parts::{
+    newtype_struct, newtype_variant, struct_of, struct_variant, tuple_struct, tuple_variant,
+    unit_variant,
+};
 pub use defaulted::{Defaulted, OrDefault};
+pub use destination::{Destination, Out};
 pub use field_types::FieldType;
 pub use fields::Fields;
-pub use items::Items;
+pub use items::TupleItems;
 pub use optional::Optional;
-pub use out::{Exit, Out};
 pub use parts::{Enum, Parts};
 pub use payloads::{Newtype, Payload, Tuple};
 use qs_data::{Data, Reader, Result, Shape, WriteResult, Writer};
@@ -44,10 +50,6 @@ pub use source::Source;
 use std::alloc::Global;
 pub use structs::{HoldsFields, StrictStruct, Struct};
 pub use variants::{Last, OneOf, Variants};
-pub use written::{
-    newtype_struct, newtype_variant, struct_of, struct_variant, tuple_struct, tuple_variant,
-    unit_variant,
-};
 
 /// A struct or an enum, given by its parts. It is read and written as these, and its values can be read back.
 ///
@@ -61,7 +63,7 @@ pub use written::{
 /// impl Compound for Point {
 ///     ghost table = { made_of ⟦<PointParts as Parts>⟧.table NAMES.now (λ point. record { 0 = (point.x, (point.y, tt)) }) _ };
 ///
-///     fn form(alloc: Global) -> Result<Shape> {
+///     fn parts_shape(alloc: Global) -> Result<Shape> {
 ///         PointParts::shape(alloc, NAMES)
 ///     }
 ///
@@ -70,7 +72,7 @@ pub use written::{
 ///         Ok(Point { x, y })
 ///     }
 ///
-///     fn written(&self, out: Out) -> WriteResult {
+///     fn write_parts(&self, out: Out) -> WriteResult {
 ///         out.fields(NAMES, (&self.x, (&self.y, ())))
 ///     }
 /// }
@@ -88,8 +90,8 @@ pub trait Compound: Sized {
     /// ```
     /// PointParts::shape(alloc, NAMES)
     /// ```
-    fn form(alloc: Global) -> Result<Shape>
-        ensures exact { IfOk result (λ s. shape_of s ≡ table.form) }
+    fn parts_shape(alloc: Global) -> Result<Shape>
+        ensures exact { IfOk result (λ s. shape_of s ≡ table.shape) }
         ensures errors { OnlyOutOfMemory result };
 
     /// Returns the value that is read from data, or from a node of a tree. If there is none, the error is
@@ -102,8 +104,8 @@ pub trait Compound: Sized {
     /// Ok(Point { x, y })
     /// ```
     fn read(source: Source<'_, '_>) -> Result<Self>
-        requires { is_distinct table.form ≡ true }
-        ensures exact { ReadsSource table.value table.form table.meaning source.entry result };
+        requires { is_distinct table.shape ≡ true }
+        ensures exact { ReadsSource table.value table.shape table.meaning source.entry result };
 
     /// Passes the parts to `out`, under their names. An error is returned only if something failed: an allocation
     /// ([`OutOfMemory`](qs_data::Stop::OutOfMemory)), or the writing of the parts. The parts are made into data, or written to a writer. It
@@ -112,25 +114,23 @@ pub trait Compound: Sized {
     /// ```
     /// out.fields(NAMES, (&self.x, (&self.y, ())))
     /// ```
-    fn written(&self, out: Out) -> WriteResult
+    fn write_parts(&self, out: Out) -> WriteResult
         ensures taken { Takes out.old out.new result (table.datum self.now) };
 }
 
 impl<C: Compound> Serialize for C {
     ghost datum = { λ x. data_by C.table.datum x };
 
-    #[tactic(auto, unfolding(crate::specs::Compound::data_by))]
     fn to_data(&self, alloc: Global) -> Result<Data> {
-        let mut exit = Exit::Data(alloc, None);
-        let taken = self.written(&mut exit);
-        exit.into_data(taken)
+        let mut destination = Destination::Data(alloc, None);
+        let taken = self.write_parts(&mut destination);
+        destination.into_data(taken)
     }
 
-    #[tactic(auto, unfolding(crate::specs::Compound::data_by))]
     fn write_to(&self, writer: &mut Writer) -> WriteResult {
-        let mut exit = Exit::Writer(writer.take());
-        let taken = self.written(&mut exit);
-        exit.give_back(writer, taken)
+        let mut destination = Destination::Writer(writer.take());
+        let taken = self.write_parts(&mut destination);
+        destination.give_back(writer, taken)
     }
 }
 
@@ -138,7 +138,7 @@ impl<C: Compound> Deserialize for C {
     ghost table = { closed C.table };
 
     fn shape(alloc: Global) -> Result<Shape> {
-        C::form(alloc)
+        C::parts_shape(alloc)
     }
 
     fn from_data(alloc: Global, datum: Data) -> Result<C> {

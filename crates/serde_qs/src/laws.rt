@@ -20,5 +20,5 @@ use crate::traits::RoundTrip;
 /// ```
 pub fn value_comes_back<T: RoundTrip>(_value: &T)
     ensures { (config : Settings) (es : List Entry) → IsPlainWithin config (T.datum _value.now) → IsOrder config (T.datum _value.now) es
-        → IsRead config T.table.form T.table.meaning (written config.form false es) (T.table.value _value.now) }
+        → IsRead config T.table.shape T.table.meaning (written config.is_form false es) (T.table.value _value.now) }
 {}

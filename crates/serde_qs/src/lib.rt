@@ -67,10 +67,11 @@ pub mod web;
 
 pub use calls::{ConfigExt, from_bytes, from_str, read_explained, to_string, to_writer};
 pub use compound::{
-    Compound, Defaulted, Enum, Exit, FieldReferences, FieldType, Fields, HoldsFields,
-    ItemReferences, Items, Last, ListedReferences, Newtype, OneOf, Optional, OrDefault, Out, Parts,
-    Payload, References, SkipNone, Source, StrictStruct, Struct, Tuple, Variants, newtype_struct,
-    newtype_variant, struct_of, struct_variant, tuple_struct, tuple_variant, unit_variant,
+    Compound, Defaulted, Destination, Enum, FieldReferences, FieldType, Fields, HoldsFields,
+    ItemReferences, Last, ListedReferences, Newtype, OneOf, Optional, OrDefault, Out, Parts,
+    Payload, References, SkipNone, Source, StrictStruct, Struct, Tuple, TupleItems, Variants,
+    newtype_struct, newtype_variant, struct_of, struct_variant, tuple_struct, tuple_variant,
+    unit_variant,
 };
 pub use laws::value_comes_back;
 pub use limits::{LimitError, Limits};

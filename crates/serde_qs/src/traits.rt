@@ -10,7 +10,7 @@ ghost use Rattle.qs_data.specs.shape.Views.{shape_of};
 ghost use Rattle.qs_tree.specs.tree.Views.{tree_of};
 ghost use Rattle.serde_qs.specs.Nodes.{ReadsNode, missing_data};
 ghost use Rattle.serde_qs.specs.Tables.{Table};
-ghost use Rattle.serde_qs.specs.Typed.{Means};
+ghost use Rattle.serde_qs.specs.Typed.{GivesValue};
 
 use crate::parts::write_made;
 use crate::path::Path;
@@ -77,7 +77,7 @@ pub trait Deserialize: Sized {
     /// let shape = u8::shape(alloc)?; // Shape::U8
     /// ```
     fn shape(alloc: Global) -> Result<Shape>
-        ensures exact { IfOk result (λ s. shape_of s ≡ table.form) }
+        ensures exact { IfOk result (λ s. shape_of s ≡ table.shape) }
         ensures errors { OnlyOutOfMemory result };
 
     /// Returns the value that data means.
@@ -89,7 +89,7 @@ pub trait Deserialize: Sized {
     /// let flag = bool::from_data(alloc, Data::Bool(true))?; // true
     /// ```
     fn from_data(alloc: Global, datum: Data) -> Result<Self>
-        ensures exact { Means table.value result (table.meaning (data_of datum)) };
+        ensures exact { GivesValue table.value result (table.meaning (data_of datum)) };
 
     /// Returns the value that is read from a node of a tree: the shape reads data from the node, and the data means the value. Typed calls
     /// read by this function.
@@ -102,7 +102,7 @@ pub trait Deserialize: Sized {
     /// let age = u8::from_node(reader, node)?;
     /// ```
     fn from_node(reader: Reader, node: &ParsedValue<'_>) -> Result<Self>
-        ensures node { ReadsNode table.value table.form table.meaning reader.reject_duplicates (tree_of node.now) result }
+        ensures node { ReadsNode table.value table.shape table.meaning reader.reject_duplicates (tree_of node.now) result }
     {
         let shape = Self::shape(reader.alloc)?;
         let datum = reader.read(&shape, node)?;
@@ -120,7 +120,7 @@ pub trait Deserialize: Sized {
     /// let query = Query::from_traced(reader, node, &mut path)?;
     /// ```
     fn from_traced(reader: Reader, node: &ParsedValue<'_>, _path: &mut Path) -> Result<Self>
-        ensures node { ReadsNode table.value table.form table.meaning reader.reject_duplicates (tree_of node.now) result }
+        ensures node { ReadsNode table.value table.shape table.meaning reader.reject_duplicates (tree_of node.now) result }
     {
         Self::from_node(reader, node)
     }
@@ -134,7 +134,7 @@ pub trait Deserialize: Sized {
     /// let none: Option<u8> = Option::from_missing(reader, "age")?; // None
     /// ```
     fn from_missing(reader: Reader, name: &str) -> Result<Self>
-        ensures missing { Means table.value result (option_and_then table.meaning (missing_data table.form)) }
+        ensures missing { GivesValue table.value result (option_and_then table.meaning (missing_data table.shape)) }
     {
         let shape = Self::shape(reader.alloc)?;
         if shape.is_option() {

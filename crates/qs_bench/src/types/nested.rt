@@ -17,7 +17,7 @@ const A: &[&str] = &["a"];
 impl Compound for Nested {
     ghost table = { made_of ⟦<Struct<(Second, ())> as Parts>⟧.table A.now (λ x. record { 0 = (x.a, tt) }) _ };
 
-    fn form(alloc: Global) -> Result<Shape> {
+    fn parts_shape(alloc: Global) -> Result<Shape> {
         Struct::<(Second, ())>::shape(alloc, A)
     }
 
@@ -26,7 +26,7 @@ impl Compound for Nested {
         Ok(Nested { a })
     }
 
-    fn written(&self, out: Out) -> WriteResult {
+    fn write_parts(&self, out: Out) -> WriteResult {
         out.fields(A, (&self.a, ()))
     }
 }
@@ -42,7 +42,7 @@ const B: &[&str] = &["b"];
 impl Compound for Second {
     ghost table = { made_of ⟦<Struct<(Third, ())> as Parts>⟧.table B.now (λ x. record { 0 = (x.b, tt) }) _ };
 
-    fn form(alloc: Global) -> Result<Shape> {
+    fn parts_shape(alloc: Global) -> Result<Shape> {
         Struct::<(Third, ())>::shape(alloc, B)
     }
 
@@ -51,7 +51,7 @@ impl Compound for Second {
         Ok(Second { b })
     }
 
-    fn written(&self, out: Out) -> WriteResult {
+    fn write_parts(&self, out: Out) -> WriteResult {
         out.fields(B, (&self.b, ()))
     }
 }
@@ -67,7 +67,7 @@ const C: &[&str] = &["c"];
 impl Compound for Third {
     ghost table = { made_of ⟦<Struct<(Fourth, ())> as Parts>⟧.table C.now (λ x. record { 0 = (x.c, tt) }) _ };
 
-    fn form(alloc: Global) -> Result<Shape> {
+    fn parts_shape(alloc: Global) -> Result<Shape> {
         Struct::<(Fourth, ())>::shape(alloc, C)
     }
 
@@ -76,7 +76,7 @@ impl Compound for Third {
         Ok(Third { c })
     }
 
-    fn written(&self, out: Out) -> WriteResult {
+    fn write_parts(&self, out: Out) -> WriteResult {
         out.fields(C, (&self.c, ()))
     }
 }
@@ -92,7 +92,7 @@ const D: &[&str] = &["d"];
 impl Compound for Fourth {
     ghost table = { made_of ⟦<Struct<(Fifth, ())> as Parts>⟧.table D.now (λ x. record { 0 = (x.d, tt) }) _ };
 
-    fn form(alloc: Global) -> Result<Shape> {
+    fn parts_shape(alloc: Global) -> Result<Shape> {
         Struct::<(Fifth, ())>::shape(alloc, D)
     }
 
@@ -101,7 +101,7 @@ impl Compound for Fourth {
         Ok(Fourth { d })
     }
 
-    fn written(&self, out: Out) -> WriteResult {
+    fn write_parts(&self, out: Out) -> WriteResult {
         out.fields(D, (&self.d, ()))
     }
 }
@@ -117,7 +117,7 @@ const E: &[&str] = &["e"];
 impl Compound for Fifth {
     ghost table = { made_of ⟦<Struct<(String, ())> as Parts>⟧.table E.now (λ x. record { 0 = (x.e, tt) }) _ };
 
-    fn form(alloc: Global) -> Result<Shape> {
+    fn parts_shape(alloc: Global) -> Result<Shape> {
         Struct::<(String, ())>::shape(alloc, E)
     }
 
@@ -126,7 +126,7 @@ impl Compound for Fifth {
         Ok(Fifth { e })
     }
 
-    fn written(&self, out: Out) -> WriteResult {
+    fn write_parts(&self, out: Out) -> WriteResult {
         out.fields(E, (&self.e, ()))
     }
 }

@@ -21,7 +21,7 @@ const PERSON: &[&str] = &["name", "age", "occupation"];
 impl Compound for Person {
     ghost table = { made_of ⟦<PersonParts as Parts>⟧.table PERSON.now (λ person. record { 0 = (person.name, (person.age, (person.occupation, tt))) }) _ };
 
-    fn form(alloc: Global) -> Result<Shape> {
+    fn parts_shape(alloc: Global) -> Result<Shape> {
         PersonParts::shape(alloc, PERSON)
     }
 
@@ -34,7 +34,7 @@ impl Compound for Person {
         })
     }
 
-    fn written(&self, out: Out) -> WriteResult {
+    fn write_parts(&self, out: Out) -> WriteResult {
         out.fields(PERSON, (&self.name, (&self.age, (&self.occupation, ()))))
     }
 }
@@ -52,7 +52,7 @@ const IDS: &[&str] = &["ids"];
 impl Compound for Ids {
     ghost table = { made_of ⟦<IdsParts as Parts>⟧.table IDS.now (λ list. record { 0 = (list.ids, tt) }) _ };
 
-    fn form(alloc: Global) -> Result<Shape> {
+    fn parts_shape(alloc: Global) -> Result<Shape> {
         IdsParts::shape(alloc, IDS)
     }
 
@@ -61,7 +61,7 @@ impl Compound for Ids {
         Ok(Ids { ids })
     }
 
-    fn written(&self, out: Out) -> WriteResult {
+    fn write_parts(&self, out: Out) -> WriteResult {
         out.fields(IDS, (&self.ids, ()))
     }
 }

@@ -21,7 +21,7 @@ const ADDRESS: &[&str] = &["city", "street", "postcode"];
 impl Compound for Address {
     ghost table = { made_of ⟦<AddressParts as Parts>⟧.table ADDRESS.now (λ address. record { 0 = (address.city, (address.street, (address.postcode, tt))) }) _ };
 
-    fn form(alloc: Global) -> Result<Shape> {
+    fn parts_shape(alloc: Global) -> Result<Shape> {
         AddressParts::shape(alloc, ADDRESS)
     }
 
@@ -34,7 +34,7 @@ impl Compound for Address {
         })
     }
 
-    fn written(&self, out: Out) -> WriteResult {
+    fn write_parts(&self, out: Out) -> WriteResult {
         out.fields(ADDRESS, (&self.city, (&self.street, (&self.postcode, ()))))
     }
 }
@@ -56,7 +56,7 @@ const RECORD: &[&str] = &["id", "name", "phone", "address", "user_ids"];
 impl Compound for Record {
     ghost table = { made_of ⟦<RecordParts as Parts>⟧.table RECORD.now (λ r. record { 0 = (r.id, (r.name, (r.phone, (r.address, (r.user_ids, tt))))) }) _ };
 
-    fn form(alloc: Global) -> Result<Shape> {
+    fn parts_shape(alloc: Global) -> Result<Shape> {
         RecordParts::shape(alloc, RECORD)
     }
 
@@ -73,7 +73,7 @@ impl Compound for Record {
         })
     }
 
-    fn written(&self, out: Out) -> WriteResult {
+    fn write_parts(&self, out: Out) -> WriteResult {
         out.fields(
             RECORD,
             (

@@ -25,7 +25,7 @@ pub struct Address {
 
 /// Returns the order in a body of the type `application/x-www-form-urlencoded`, or an error that names the field.
 pub fn ordered(alloc: Global, body: &[u8]) -> Result<Order, PathError>
-    ensures { ExplainsFrom (record default { form = true }) body.now result }
+    ensures { ExplainsFrom (record default { is_form = true }) body.now result }
 {
     explain_bytes(alloc, Config::new().use_form_encoding(true), body)
 }

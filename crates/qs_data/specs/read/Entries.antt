@@ -14,7 +14,7 @@ pub use Rattle.qs_data.specs.read.internal.Keys.{entries_after}
 abbrev pub node_entries : Tree → Option Entries
 node_entries (leaf NoValue) = Some no_entries
 node_entries (leaf Null) = Some no_entries
-node_entries (leaf (Text bytes mark)) = Some (under_empty (leaf (Text bytes mark)))
+node_entries (leaf (Text bytes escaped)) = Some (under_empty (leaf (Text bytes escaped)))
 node_entries (sequence xs) = None
 node_entries (mapping es) = Some es
 node_entries uninitialized = None
@@ -22,4 +22,4 @@ node_entries uninitialized = None
 -- the first entry with the text of its key, if there is one; a key that isn't UTF-8 is rejected
 abbrev pub first_entry : Entries → Option (Option (List ℕ × Tree))
 first_entry no_entries = Some None
-first_entry (entry k mark t es) = cond (is_utf8 (segment_text k)) (Some (Some (segment_text k, t))) None
+first_entry (entry k escaped t es) = cond (is_utf8 (segment_text k)) (Some (Some (segment_text k, t))) None

@@ -6,7 +6,7 @@ use Rattle.qs_data.specs.declared.read.keys.Found.{Found}
 use Rattle.qs_data.specs.declared.read.keys.Found.TheVariants.{Missing, One, Several}
 
 -- the one value, if there is one
-abbrev pub Finds : Found → List t.Tree → Type 0
-Finds Missing ts = ts ≡ []
-Finds (One value) ts = ts ≡ tree_of value.now ∷ []
-Finds Several ts = (a : t.Tree) × (b : t.Tree) × (rest : List t.Tree) × (ts ≡ a ∷ b ∷ rest)
+abbrev pub IsFound : Found → List t.Tree → Type 0
+IsFound Missing ts = ts ≡ []
+IsFound (One value) ts = ts ≡ tree_of value.now ∷ []
+IsFound Several ts = (a : t.Tree) × (b : t.Tree) × (rest : List t.Tree) × (ts ≡ a ∷ b ∷ rest)

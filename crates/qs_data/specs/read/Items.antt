@@ -3,12 +3,12 @@ use Rattle.std.specs.Prelude.{Bool, true, ◌&&◌, List, [], ◌∷◌, map, Op
 use Rattle.qs_spec.specs.Tree.{Tree}
 use Rattle.qs_spec.specs.Node.{sequence_items, placed}
 use Rattle.qs_tree.specs.tree.Views.{tree_of, items_from, entries_of_map}
-use Rattle.qs_data.specs.declared.read.items.Items.{Items}
-use Rattle.qs_data.specs.declared.read.items.Items.TheVariants.{Empty, One, Sequence, Places}
+use Rattle.qs_data.specs.declared.read.items.NodeItems.{NodeItems}
+use Rattle.qs_data.specs.declared.read.items.NodeItems.TheVariants.{Empty, One, Sequence, Places}
 use Rattle.qs_data.specs.read.TreeText.{is_text}
 
 -- each item, and none at an index that isn't the one that is due
-abbrev pub items_view : Items → List (Option Tree)
+abbrev pub items_view : NodeItems → List (Option Tree)
 items_view Empty = []
 items_view (One value) = Some (tree_of value.now) ∷ []
 items_view (Sequence values) = sequence_items (items_from (map tree_of values.now))

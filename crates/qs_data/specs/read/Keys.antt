@@ -6,13 +6,13 @@ use Rattle.qs_spec.specs.Tree as t
 use Rattle.qs_spec.specs.Tree.Entries.{no_entries, entry}
 use Rattle.qs_spec.specs.Node.{under_empty}
 use Rattle.qs_tree.specs.tree.Views.{tree_of, entries_of_map}
-use Rattle.qs_data.specs.declared.read.keys.Entries.{Entries}
-use Rattle.qs_data.specs.declared.read.keys.Entries.TheVariants as e
+use Rattle.qs_data.specs.declared.read.keys.NodeEntries.{NodeEntries}
+use Rattle.qs_data.specs.declared.read.keys.NodeEntries.TheVariants as e
 -- what happens to unknown keys, and nothing more to return if a test is passed
 pub use Rattle.qs_data.specs.read.internal.Keys.{unknown_of, when}
 
 -- each key with its value; a leaf is under the empty text
-abbrev pub entries_view : Entries → t.Entries
+abbrev pub entries_view : NodeEntries → t.Entries
 entries_view e.Empty = no_entries
 entries_view (e.Map map) = entries_of_map map.now
 entries_view (e.Leaf leaf) = under_empty (tree_of leaf.now)
@@ -25,7 +25,7 @@ KeyFits (Str bytes) = ⊤
 -- each integer key has 32 bits
 abbrev pub NumbersFit : t.Entries → Type 0
 NumbersFit no_entries = ⊤
-NumbersFit (entry k mark t es) = KeyFits k × NumbersFit es
+NumbersFit (entry k escaped t es) = KeyFits k × NumbersFit es
 
 -- the result is Ok if the test is passed, and an error if it isn't
 abbrev pub PassesTest : {X E : Type 0} → Result X E → Bool → Type 0

@@ -31,4 +31,4 @@ IsSame x (Err _) = ⊥
 -- whatever plain data the input was written of, they are what is returned
 abbrev pub ReadsBack : Parsed → s.Shape → Result Data Error → Type 0
 ReadsBack parsed shape result = (x : d.Data) (es : List Entry) → IsPlainFor parsed.config shape x → IsOrder parsed.config x es
-    → IsTree parsed.config.form parsed.config.max_depth (written parsed.config.form false es) parsed.tree → IsSame x result
+    → IsTree parsed.config.is_form parsed.config.max_depth (written parsed.config.is_form false es) parsed.tree → IsSame x result

@@ -22,4 +22,4 @@ abbrev mutual
 
   pub entries_are_text : Entries → Bool
   entries_are_text no_entries = true
-  entries_are_text (entry k mark t es) = is_utf8 (segment_text k) && is_text t && entries_are_text es
+  entries_are_text (entry k escaped t es) = is_utf8 (segment_text k) && is_text t && entries_are_text es

@@ -18,16 +18,16 @@ output_of s d = entries s.config d
 
 -- the text of those entries, after what was written before
 abbrev pub text_of : {S : Type 0} → State S → Data → List ℕ
-text_of s d = written s.config.form s.started (output_of s d).entries
+text_of s d = written s.config.is_form s.started (output_of s d).entries
 
 -- a byte above the space and below 0x7F
 abbrev pub IsVisible : ℕ → Type 0
 IsVisible b = (33 ≤ b) × (b ≤ 126)
 
 -- no value or nothing, also in options and types of their own: what doesn't allocate if it is alone
-abbrev pub IsBare : Data → Type 0
-IsBare Data.unit = Unit {0}
-IsBare Data.none = Unit {0}
-IsBare (Data.some d) = IsBare d
-IsBare (Data.newtype d) = IsBare d
-IsBare _ = ⊥
+abbrev pub IsUnallocated : Data → Type 0
+IsUnallocated Data.unit = Unit {0}
+IsUnallocated Data.none = Unit {0}
+IsUnallocated (Data.some d) = IsUnallocated d
+IsUnallocated (Data.newtype d) = IsUnallocated d
+IsUnallocated _ = ⊥

@@ -21,56 +21,56 @@ pub record StreamState : Type 0 where
   pub started : Bool
 
 -- exactly the text of these entries was added
-pub record Adds (form : Bool) (old new : StreamState) (es : List Entry) : Type 0 where
-  pub text : Appends old.taken new.taken (written form old.started es)
-  pub visible : All IsVisible (written form old.started es)
+pub record Adds (is_form : Bool) (old new : StreamState) (es : List Entry) : Type 0 where
+  pub text : Appends old.taken new.taken (written is_form old.started es)
+  pub visible : All IsVisible (written is_form old.started es)
   pub started : new.started ≡ started_after old.started es
   pub failed : new.failed ≡ old.failed
   pub writer : new.writer ≡ old.writer
 
 -- the text of some first entries was added
-pub record AddsSome (form : Bool) (old new : StreamState) (es : List Entry) : Type 0 where
+pub record AddsSome (is_form : Bool) (old new : StreamState) (es : List Entry) : Type 0 where
   pub front : List Entry
   pub rest : List Entry
   pub parts : es ≡ front ++ rest
-  pub adds : Adds form old new front
+  pub adds : Adds is_form old new front
 
 -- a proper prefix of the text was added, and then a put failed
-pub record AddsPart (form : Bool) (old new : StreamState) (es : List Entry) : Type 0 where
+pub record AddsPart (is_form : Bool) (old new : StreamState) (es : List Entry) : Type 0 where
   pub count : ℕ
-  pub proper : count < length (written form old.started es)
-  pub text : Appends old.taken new.taken (take count (written form old.started es))
-  pub visible : All IsVisible (take count (written form old.started es))
+  pub proper : count < length (written is_form old.started es)
+  pub text : Appends old.taken new.taken (take count (written is_form old.started es))
+  pub visible : All IsVisible (take count (written is_form old.started es))
   pub failed : new.failed ≡ true
   pub writer : new.writer ≡ old.writer
 
 -- what was written at each stop
 abbrev pub Stops : Stop → Config → StreamState → StreamState → Output → Type 0
-Stops stop.TooDeep config old new o = (o.error ≡ Some too_deep) × Adds config.form old new o.entries
-Stops stop.BadKey config old new o = (o.error ≡ Some bad_key) × Adds config.form old new o.entries
-Stops stop.Io config old new o = AddsPart config.form old new o.entries
-Stops stop.OutOfMemory config old new o = AddsSome config.form old new o.entries
+Stops stop.TooDeep config old new o = (o.error ≡ Some too_deep) × Adds config.is_form old new o.entries
+Stops stop.BadKey config old new o = (o.error ≡ Some bad_key) × Adds config.is_form old new o.entries
+Stops stop.Io config old new o = AddsPart config.is_form old new o.entries
+Stops stop.OutOfMemory config old new o = AddsSome config.is_form old new o.entries
 
 -- a path after `&`
 abbrev pub path_after : Bool → Path → List ℕ
-path_after form [] = []
-path_after form (s ∷ path) = 38 ∷ (encoded form s ++ brackets_text form path)
+path_after is_form [] = []
+path_after is_form (s ∷ path) = 38 ∷ (encoded is_form s ++ brackets_text is_form path)
 
 -- such a text with one more segment
 abbrev pub grown : Bool → List ℕ → List ℕ → List ℕ
-grown form [] s = 38 ∷ encoded form s
-grown form (b ∷ text) s = (b ∷ text) ++ (open_bytes form ++ (encoded form s ++ close_bytes form))
+grown is_form [] s = 38 ∷ encoded is_form s
+grown is_form (b ∷ text) s = (b ∷ text) ++ (open_bytes is_form ++ (encoded is_form s ++ close_bytes is_form))
 
 -- the walk is at this path, under this configuration
 pub record IsAt (config : Config) (path : Path) (walk : Walk) : Type 0 where
   pub settings : walk.config ≡ config
   pub depth : walk.depth ≡ length path
-  pub text : walk.text ≡ path_after config.form path
+  pub text : walk.text ≡ path_after config.is_form path
   pub visible : All IsVisible walk.text
 
 -- all entries were written, there is no error and the walk is where it was, or what the stop says
 abbrev pub Writes : Result (Unit {0}) Stop → Config → Path → StreamState → StreamState → Walk → Output → Type 0
-Writes (Ok x) config path old new walk o = (o.error ≡ None) × Adds config.form old new o.entries × IsAt config path walk
+Writes (Ok x) config path old new walk o = (o.error ≡ None) × Adds config.is_form old new o.entries × IsAt config path walk
 Writes (Err e) config path old new walk o = Stops e config old new o
 
 -- a stream and the text in it, by what its sink reports
@@ -95,4 +95,4 @@ IsBarred config e from = (path : Path) → IsAt config path from → ((e ≡ sto
 
 -- the walk is where it was before its last segment, if its text had this length there
 abbrev pub LeavesAt : Config → ℕ → Walk → Walk → Type 0
-LeavesAt config len from to = (path : Path) (segment : List ℕ) → IsAt config (path ++ segment ∷ []) from → len ≡ length (path_after config.form path) → IsAt config path to
+LeavesAt config len from to = (path : Path) (segment : List ℕ) → IsAt config (path ++ segment ∷ []) from → len ≡ length (path_after config.is_form path) → IsAt config path to

@@ -40,7 +40,7 @@ impl Data {
     /// }
     /// ```
     pub fn is_plain(&self, config: Config) -> bool
-        ensures { result ≡ is_plain config.form (data_of self.now) }
+        ensures { result ≡ is_plain config.is_form (data_of self.now) }
     {
         is_plain(self, config.get_form())
     }
@@ -49,25 +49,25 @@ impl Data {
 // Returns whether data can be read back, with form encoding or without it.
 #[cycle(plain)]
 #[tactic(auto, using(crate::proofs::lemmas::data::Levels::levels))]
-fn is_plain(datum: &Data, form: bool) -> bool
-    ensures { result ≡ is_plain form (data_of datum.now) }
+fn is_plain(datum: &Data, is_form: bool) -> bool
+    ensures { result ≡ is_plain is_form (data_of datum.now) }
 {
     match datum {
-        Data::Some(part) => !is_optional(part) && is_plain(part, form),
-        Data::Newtype(part) => is_plain(part, form),
-        Data::Seq(items) | Data::Tuple(items) => are_plain_items(items, form),
-        Data::Map(pairs) => written_keys_differ(pairs) && are_plain_pairs(pairs, form),
-        Data::Struct(members) => are_plain_fields(members, form),
+        Data::Some(part) => !is_optional(part) && is_plain(part, is_form),
+        Data::Newtype(part) => is_plain(part, is_form),
+        Data::Seq(items) | Data::Tuple(items) => are_plain_items(items, is_form),
+        Data::Map(pairs) => written_keys_differ(pairs) && are_plain_pairs(pairs, is_form),
+        Data::Struct(members) => are_plain_fields(members, is_form),
         Data::UnitVariant(name) => !name.is_empty(),
         Data::NewtypeVariant(name, part) => {
-            is_plain_name(name.as_bytes(), form) && is_plain(part, form)
+            is_plain_name(name.as_bytes(), is_form) && is_plain(part, is_form)
         }
         Data::TupleVariant(name, items) => {
-            is_plain_name(name.as_bytes(), form)
-                && (has_values(items) && are_plain_items(items, form))
+            is_plain_name(name.as_bytes(), is_form)
+                && (has_values(items) && are_plain_items(items, is_form))
         }
         Data::StructVariant(name, members) => {
-            is_plain_name(name.as_bytes(), form) && are_plain_fields(members, form)
+            is_plain_name(name.as_bytes(), is_form) && are_plain_fields(members, is_form)
         }
         _ => true,
     }
@@ -76,19 +76,19 @@ fn is_plain(datum: &Data, form: bool) -> bool
 // Returns whether the elements of a list can be read back, and there is an index for each.
 #[cycle(plain)]
 #[tactic(auto, using(crate::proofs::lemmas::data::Counts::count_is))]
-fn are_plain_items(items: &Vec<Data>, form: bool) -> bool
-    ensures { let ds = values_in items.now.items in result ≡ (are_few ds && are_plain form ds) }
+fn are_plain_items(items: &Vec<Data>, is_form: bool) -> bool
+    ensures { let ds = values_in items.now.items in result ≡ (are_few ds && are_plain is_form ds) }
 {
-    items.len() <= u32::MAX as usize && are_plain(items, form)
+    items.len() <= u32::MAX as usize && are_plain(items, is_form)
 }
 
 // Returns whether each item can be read back.
 #[cycle(plain)]
-fn are_plain(items: &Vec<Data>, form: bool) -> bool
-    ensures { result ≡ are_plain form (values_in items.now.items) }
+fn are_plain(items: &Vec<Data>, is_form: bool) -> bool
+    ensures { result ≡ are_plain is_form (values_in items.now.items) }
 {
     for item in items {
-        if !is_plain(item, form) {
+        if !is_plain(item, is_form) {
             return false;
         }
     }
@@ -97,11 +97,11 @@ fn are_plain(items: &Vec<Data>, form: bool) -> bool
 
 // Returns whether each key of a map and its value can be read back.
 #[cycle(plain)]
-fn are_plain_pairs(pairs: &Vec<(Data, Data)>, form: bool) -> bool
-    ensures { result ≡ are_plain_pairs form (pairs_in pairs.now.items) }
+fn are_plain_pairs(pairs: &Vec<(Data, Data)>, is_form: bool) -> bool
+    ensures { result ≡ are_plain_pairs is_form (pairs_in pairs.now.items) }
 {
     for pair in pairs {
-        if !is_plain_key(&pair.0, form) || !is_plain(&pair.1, form) {
+        if !is_plain_key(&pair.0, is_form) || !is_plain(&pair.1, is_form) {
             return false;
         }
     }
@@ -111,20 +111,20 @@ fn are_plain_pairs(pairs: &Vec<(Data, Data)>, form: bool) -> bool
 // Returns whether a struct or a struct variant has fields, their names differ, and each can be read back.
 #[cycle(plain)]
 #[tactic(auto, using(crate::proofs::lemmas::data::Counts::some_members))]
-fn are_plain_fields(members: &Vec<(String, Data)>, form: bool) -> bool
+fn are_plain_fields(members: &Vec<(String, Data)>, is_form: bool) -> bool
     ensures { let ms = members_in members.now.items in
-        result ≡ (has_members ms && member_names_differ ms && are_plain_members form ms) }
+        result ≡ (has_members ms && member_names_differ ms && are_plain_members is_form ms) }
 {
-    !members.is_empty() && (member_names_differ(members) && are_plain_members(members, form))
+    !members.is_empty() && (member_names_differ(members) && are_plain_members(members, is_form))
 }
 
 // Returns whether each name and its value can be read back.
 #[cycle(plain)]
-fn are_plain_members(members: &Vec<(String, Data)>, form: bool) -> bool
-    ensures { result ≡ are_plain_members form (members_in members.now.items) }
+fn are_plain_members(members: &Vec<(String, Data)>, is_form: bool) -> bool
+    ensures { result ≡ are_plain_members is_form (members_in members.now.items) }
 {
     for member in members {
-        if !is_plain_name(member.0.as_bytes(), form) || !is_plain(&member.1, form) {
+        if !is_plain_name(member.0.as_bytes(), is_form) || !is_plain(&member.1, is_form) {
             return false;
         }
     }
@@ -151,12 +151,12 @@ fn is_optional(datum: &Data) -> bool
 }
 
 // Returns whether a name or the text of a key is read back.
-fn is_plain_name(name: &[u8], form: bool) -> bool
-    ensures { result ≡ is_plain_name form name.now }
+fn is_plain_name(name: &[u8], is_form: bool) -> bool
+    ensures { result ≡ is_plain_name is_form name.now }
 {
     !name.is_empty()
         && !(is_numeral(name) && name.len() > 1 && name[0] == b'0')
-        && !(form && holds_bracket(name))
+        && !(is_form && holds_bracket(name))
 }
 
 // Returns whether the bytes are digits, at least one.
@@ -179,13 +179,13 @@ fn holds_bracket(bytes: &[u8]) -> bool
 }
 
 // Returns whether the key of a map is read back.
-fn is_plain_key(key: &Data, form: bool) -> bool
-    ensures { result ≡ is_plain_key form (data_of key.now) }
+fn is_plain_key(key: &Data, is_form: bool) -> bool
+    ensures { result ≡ is_plain_key is_form (data_of key.now) }
 {
     match key {
         Data::Bytes(_) => false,
         _ => match Scalar::of(key) {
-            Some(key) => is_plain_name(key.text(&mut Room::new()), form),
+            Some(key) => is_plain_name(key.text(&mut Room::new()), is_form),
             None => false,
         },
     }

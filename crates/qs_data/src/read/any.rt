@@ -9,7 +9,7 @@ ghost use Rattle.qs_data.specs.read.internal.Nesting.{frame_data, frame_is_text}
 
 use crate::data::Data;
 use crate::read::error::Result;
-use crate::read::nested::{Frame, Visited, visit};
+use crate::read::nested::{Partial, Visited, visit};
 use qs_tree::ParsedValue;
 use std::alloc::Global;
 use std::mem;
@@ -29,7 +29,7 @@ pub(crate) fn read_any(alloc: Global, value: &ParsedValue<'_>) -> Result<Data>
 }
 
 // Reads a list or a map. The lists and maps around the innermost one are on a stack.
-fn read_frame(alloc: Global, outermost: Frame<'_, '_>) -> Result<Data>
+fn read_frame(alloc: Global, outermost: Partial<'_, '_>) -> Result<Data>
     ensures { ReadGives data_of (frame_is_text outermost.entry) result (frame_data outermost.entry) }
 {
     let mut stack = Vec::new(alloc);

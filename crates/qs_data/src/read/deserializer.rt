@@ -4,8 +4,8 @@ ghost use Rattle.std.specs.Prelude.{◌≡◌, ◌≢◌, ◌+◌, ◌≤◌, �
 ghost use Rattle.qs_spec.specs.Config.{default};
 ghost use Rattle.qs_spec.specs.Holds.{IsSound, leaf_count, nesting};
 ghost use Rattle.qs_spec.specs.Input.{HasPairs, IsReordered};
-ghost use Rattle.qs_spec.specs.Marks.{marks};
-ghost use Rattle.qs_spec.specs.Order.{AreEquivalent, unmarked};
+ghost use Rattle.qs_spec.specs.Escapes.{escapes};
+ghost use Rattle.qs_spec.specs.Order.{AreEquivalent, ignoring_escapes};
 ghost use Rattle.qs_spec.specs.Shape.{is_distinct};
 ghost use Rattle.qs_spec.specs.Tree.{Tree, IsTree, HasNoTree};
 ghost use Rattle.qs_tree.specs.Error.{IsParse, IfParse, IsOutOfMemory, OnlyOutOfMemory, OnlyParseOrOutOfMemory};
@@ -44,8 +44,8 @@ impl<'qs> Deserializer<'qs> {
     /// ```
     pub fn new(alloc: Global, input: &'qs [u8]) -> Result<Deserializer<'qs>>
         ensures config { IfOk result (λ d. (parsed_of d).config ≡ default) }
-        ensures tree { IfOk result (λ d. IsTree default.form default.max_depth input.now (parsed_of d).tree) }
-        ensures no_tree { IsParse result → HasNoTree default.form default.max_depth input.now }
+        ensures tree { IfOk result (λ d. IsTree default.is_form default.max_depth input.now (parsed_of d).tree) }
+        ensures no_tree { IsParse result → HasNoTree default.is_form default.max_depth input.now }
         ensures position { IfParse result (λ position. position ≤ length input.now + 1) }
         ensures no_allocation { AllocatesNothing input.now → IsOk result }
         ensures errors { OnlyParseOrOutOfMemory result }
@@ -70,20 +70,20 @@ impl<'qs> Deserializer<'qs> {
     /// ```
     pub fn with_config(alloc: Global, config: Config, input: &'qs [u8]) -> Result<Deserializer<'qs>>
         ensures config { IfOk result (λ d. (parsed_of d).config ≡ config) }
-        ensures tree { IfOk result (λ d. IsTree config.form config.max_depth input.now (parsed_of d).tree) }
-        ensures no_tree { IsParse result → HasNoTree config.form config.max_depth input.now }
-        ensures accepted { (t : Tree) → IsTree config.form config.max_depth input.now t → OnlyOutOfMemory result }
-        ensures rejected { HasNoTree config.form config.max_depth input.now → IsParse result ⊎ IsOutOfMemory result }
+        ensures tree { IfOk result (λ d. IsTree config.is_form config.max_depth input.now (parsed_of d).tree) }
+        ensures no_tree { IsParse result → HasNoTree config.is_form config.max_depth input.now }
+        ensures accepted { (t : Tree) → IsTree config.is_form config.max_depth input.now t → OnlyOutOfMemory result }
+        ensures rejected { HasNoTree config.is_form config.max_depth input.now → IsParse result ⊎ IsOutOfMemory result }
         ensures position { IfParse result (λ position. position ≤ length input.now + 1) }
         ensures no_allocation { AllocatesNothing input.now → IsOk result }
         ensures errors { OnlyParseOrOutOfMemory result }
-        ensures borrowed { (t : Tree) → IsTree config.form config.max_depth input.now t → IfOk result (λ d. owned_by d ≡ marks t) }
-        ensures leaves { input.now ≢ [] → IfOk result (λ d. HasPairs config.form config.max_depth input.now (leaf_count (parsed_of d).tree)) }
+        ensures borrowed { (t : Tree) → IsTree config.is_form config.max_depth input.now t → IfOk result (λ d. owned_by d ≡ escapes t) }
+        ensures leaves { input.now ≢ [] → IfOk result (λ d. HasPairs config.is_form config.max_depth input.now (leaf_count (parsed_of d).tree)) }
         ensures nesting { IfOk result (λ d. nesting (parsed_of d).tree ≤ config.max_depth + 2) }
         ensures sound { IfOk result (λ d. IsSound (parsed_of d).tree) }
-        ensures equivalent { (other : List ℕ) → IsReordered config.form config.max_depth input.now other → AreEquivalent config.form config.max_depth input.now other }
-        ensures reordered { (other : List ℕ) → IsReordered config.form config.max_depth input.now other
-            → IfOk result (λ d. (t : Tree) × IsTree config.form config.max_depth other t × (unmarked t ≡ unmarked (parsed_of d).tree)) }
+        ensures equivalent { (other : List ℕ) → IsReordered config.is_form config.max_depth input.now other → AreEquivalent config.is_form config.max_depth input.now other }
+        ensures reordered { (other : List ℕ) → IsReordered config.is_form config.max_depth input.now other
+            → IfOk result (λ d. (t : Tree) × IsTree config.is_form config.max_depth other t × (ignoring_escapes t ≡ ignoring_escapes (parsed_of d).tree)) }
     {
         let tree = parse(alloc, input, config)?;
         Ok(Deserializer { config, tree })

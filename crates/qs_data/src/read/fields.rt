@@ -16,7 +16,7 @@ use crate::data::Data;
 use crate::read::by_shape::{Reader, read_inline, read_node};
 use crate::read::error::Result;
 use crate::read::key_test::test_keys;
-use crate::read::keys::{Entries, Found, find};
+use crate::read::keys::{Found, NodeEntries, find};
 use crate::read::message::{Expected, Message};
 use crate::read::scalar::as_text;
 use crate::read::unknown::UnknownKeys;
@@ -42,9 +42,9 @@ pub(crate) fn read_struct(
             reader,
             unknown,
             fields,
-            Entries::Empty,
+            NodeEntries::Empty,
         ),
-        ParsedValue::Map(map) => read_entries(reader, unknown, fields, Entries::Map(map)),
+        ParsedValue::Map(map) => read_entries(reader, unknown, fields, NodeEntries::Map(map)),
         ParsedValue::Sequence(items) => read_places(reader, fields, items),
         ParsedValue::String(text) => {
             as_text(text.as_slice())?;
@@ -62,7 +62,7 @@ pub(crate) fn read_entries(
     reader: Reader,
     unknown: UnknownKeys,
     fields: &Vec<Field>,
-    entries: Entries<'_, '_>,
+    entries: NodeEntries<'_, '_>,
 ) -> Result<Vec<(String, Data)>>
     ensures { ReadGives (λ v. map (named data_of) v.items) (entries_are_text (entries_view entries.entry)) result
         (option_and_then (λ ms. cond (keys_are_allowed (unknown_of unknown) (fields_in fields.now.items) (entries_view entries.entry)) (Some ms) None)
@@ -86,7 +86,7 @@ pub(crate) fn read_entries(
 fn read_names(
     reader: Reader,
     fields: &Vec<Field>,
-    entries: Entries<'_, '_>,
+    entries: NodeEntries<'_, '_>,
 ) -> Result<Vec<(String, Data)>>
     requires { NumbersFit (entries_view entries) }
     ensures { ReadGives (λ v. map (named data_of) v.items) (entries_are_text (entries_view entries.entry)) result
@@ -105,7 +105,7 @@ fn read_names(
 
 // Reads a field by its name, if it isn't left out.
 #[cycle(read)]
-fn read_field(reader: Reader, field: &Field, entries: Entries<'_, '_>) -> Result<Option<Data>>
+fn read_field(reader: Reader, field: &Field, entries: NodeEntries<'_, '_>) -> Result<Option<Data>>
     requires { NumbersFit (entries_view entries) }
     ensures { let f = field_of field.now in
         ReadGives (option_map data_of) (entries_are_text (entries_view entries.entry)) result

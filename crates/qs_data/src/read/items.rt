@@ -27,7 +27,7 @@ use std::alloc::Global;
 /// }
 /// ```
 #[derive(Clone, Copy)]
-pub enum Items<'t, 'qs> {
+pub enum NodeItems<'t, 'qs> {
     /// No items.
     Empty,
     /// A string, as the only item.
@@ -43,16 +43,16 @@ pub(crate) fn items_of<'t, 'qs>(
     alloc: Global,
     value: &'t ParsedValue<'qs>,
     expected: Expected,
-) -> Result<Items<'t, 'qs>>
+) -> Result<NodeItems<'t, 'qs>>
     ensures { ReadGives items_view true result (items (tree_of value.now)) }
 {
     match value {
-        ParsedValue::NoValue | ParsedValue::Null => Ok(Items::Empty),
-        ParsedValue::String(_) => Ok(Items::One(value)),
-        ParsedValue::Sequence(values) => Ok(Items::Sequence(values)),
+        ParsedValue::NoValue | ParsedValue::Null => Ok(NodeItems::Empty),
+        ParsedValue::String(_) => Ok(NodeItems::One(value)),
+        ParsedValue::Sequence(values) => Ok(NodeItems::Sequence(values)),
         ParsedValue::Map(map) => {
             if are_integers(map) {
-                Ok(Items::Places(map))
+                Ok(NodeItems::Places(map))
             } else {
                 Err(Message::mismatch(alloc, value, expected))
             }
@@ -77,7 +77,7 @@ pub(crate) fn are_integers(map: &ParsedMap<'_>) -> bool
     true
 }
 
-impl<'t, 'qs> Items<'t, 'qs> {
+impl<'t, 'qs> NodeItems<'t, 'qs> {
     /// Returns the number of items, in constant time.
     ///
     /// ```
@@ -88,10 +88,10 @@ impl<'t, 'qs> Items<'t, 'qs> {
         ensures { result ≡ length (items_view self.entry) }
     {
         match self {
-            Items::Empty => 0,
-            Items::One(_) => 1,
-            Items::Sequence(values) => values.len(),
-            Items::Places(map) => map.len(),
+            NodeItems::Empty => 0,
+            NodeItems::One(_) => 1,
+            NodeItems::Sequence(values) => values.len(),
+            NodeItems::Places(map) => map.len(),
         }
     }
 
@@ -103,16 +103,16 @@ impl<'t, 'qs> Items<'t, 'qs> {
         ensures { ReadGives (option_map (λ v. tree_of v.now)) true result (first_item (drop place (items_view self.entry))) }
     {
         match self {
-            Items::Empty => Ok(None),
-            Items::One(value) => {
+            NodeItems::Empty => Ok(None),
+            NodeItems::One(value) => {
                 if place == 0 {
                     Ok(Some(value))
                 } else {
                     Ok(None)
                 }
             }
-            Items::Sequence(values) => Ok(values.get(place)),
-            Items::Places(map) => value_at(alloc, map, place),
+            NodeItems::Sequence(values) => Ok(values.get(place)),
+            NodeItems::Places(map) => value_at(alloc, map, place),
         }
     }
 

@@ -11,14 +11,14 @@ ghost use Rattle.qs_data.specs.read.Errors.{IsOfReading};
 ghost use Rattle.qs_data.specs.read.Keys.{NumbersFit, KeyFits, PassesTest, entries_view};
 
 use crate::read::error::{ReadError, Result};
-use crate::read::keys::Entries;
+use crate::read::keys::NodeEntries;
 use crate::read::message::key_error;
 use qs_tree::{Error, Key, ParsedMap};
 use std::alloc::Global;
 use std::str;
 use std::str::Utf8Error;
 
-/// A key that isn't UTF-8, which [`Entries::test`] returns.
+/// A key that isn't UTF-8, which [`NodeEntries::test`] returns.
 ///
 /// ```
 /// let broken = entries.test(); // Err for %FF=1
@@ -54,14 +54,14 @@ impl BrokenKey<'_> {
 
 /// Tests whether all keys are UTF-8, and returns the first that isn't.
 #[tactic(auto, using(crate::proofs::lemmas::read::Numbers::empty_text))]
-pub(crate) fn test_keys<'t>(entries: Entries<'t, '_>) -> Result<(), BrokenKey<'t>>
+pub(crate) fn test_keys<'t>(entries: NodeEntries<'t, '_>) -> Result<(), BrokenKey<'t>>
     ensures text { PassesTest result (keys_are_text (entries_view entries.entry)) }
     ensures fit { NumbersFit (entries_view entries.entry) }
 {
     match entries {
-        Entries::Empty => Ok(()),
-        Entries::Leaf(_) => Ok(()),
-        Entries::Map(map) => test_map(map),
+        NodeEntries::Empty => Ok(()),
+        NodeEntries::Leaf(_) => Ok(()),
+        NodeEntries::Map(map) => test_map(map),
     }
 }
 

@@ -4,7 +4,7 @@ ghost use Rattle.std.specs.Prelude.{◌≡◌, ◌++◌, ◌<◌, ◌^◌, ℕ, 
 ghost use Rattle.qs_spec.specs.Node.{found, keys_are_text};
 ghost use Rattle.qs_tree.specs.tree.Views.{entries_of_map, entry_list, tree_of};
 ghost use Rattle.qs_data.specs.read.Entries.{entries_after, first_entry};
-ghost use Rattle.qs_data.specs.read.Found.{Finds};
+ghost use Rattle.qs_data.specs.read.Found.{IsFound};
 ghost use Rattle.qs_data.specs.read.Gives.{Gives};
 ghost use Rattle.qs_data.specs.read.internal.ReadError.{ReadGives};
 ghost use Rattle.qs_data.specs.read.Keys.{NumbersFit, PassesTest, entries_view};
@@ -32,7 +32,7 @@ use std::alloc::Global;
 /// }
 /// ```
 #[derive(Clone, Copy)]
-pub enum Entries<'t, 'qs> {
+pub enum NodeEntries<'t, 'qs> {
     /// No entries.
     Empty,
     /// The entries of a map.
@@ -60,12 +60,12 @@ pub enum Found<'t, 'qs> {
     Several,
 }
 
-impl<'t, 'qs> Entries<'t, 'qs> {
+impl<'t, 'qs> NodeEntries<'t, 'qs> {
     /// Looks up the value under a name: under the string key, or under the integer key whose digits are the name. It makes at most two
     /// look-ups by binary search, and doesn't allocate.
     ///
-    /// The clause requires integer keys of 32 bits, which every tree has. [`test`](Entries::test) and
-    /// [`keys_are_text`](Entries::keys_are_text) show this, so call one of them first.
+    /// The clause requires integer keys of 32 bits, which every tree has. [`test`](NodeEntries::test) and
+    /// [`keys_are_text`](NodeEntries::keys_are_text) show this, so call one of them first.
     ///
     /// ```
     /// if let Found::One(node) = entries.find("age") {
@@ -75,7 +75,7 @@ impl<'t, 'qs> Entries<'t, 'qs> {
     #[inline(always)]
     pub fn find(self, name: &str) -> Found<'t, 'qs>
         requires { NumbersFit (entries_view self) }
-        ensures { Finds result (found name.now (entries_view self.entry)) }
+        ensures { IsFound result (found name.now (entries_view self.entry)) }
     {
         find(self, name)
     }
@@ -92,7 +92,7 @@ impl<'t, 'qs> Entries<'t, 'qs> {
         test_keys(self)
     }
 
-    /// Returns whether all keys are UTF-8. It takes less time than [`test`](Entries::test), which also returns the broken key.
+    /// Returns whether all keys are UTF-8. It takes less time than [`test`](NodeEntries::test), which also returns the broken key.
     ///
     /// ```
     /// if !entries.keys_are_text() {
@@ -106,24 +106,24 @@ impl<'t, 'qs> Entries<'t, 'qs> {
         ensures fit { NumbersFit (entries_view self.entry) }
     {
         match self {
-            Entries::Empty => true,
-            Entries::Leaf(_) => true,
-            Entries::Map(map) => keys_are_text(map),
+            NodeEntries::Empty => true,
+            NodeEntries::Leaf(_) => true,
+            NodeEntries::Map(map) => keys_are_text(map),
         }
     }
 
     /// Returns the number of entries, in constant time.
     ///
     /// ```
-    /// let count = Entries::Map(&map).len();
+    /// let count = NodeEntries::Map(&map).len();
     /// ```
     pub fn len(self) -> usize
         ensures { result ≡ length (entry_list (entries_view self.entry)) }
     {
         match self {
-            Entries::Empty => 0,
-            Entries::Map(map) => map.len(),
-            Entries::Leaf(_) => 1,
+            NodeEntries::Empty => 0,
+            NodeEntries::Map(map) => map.len(),
+            NodeEntries::Leaf(_) => 1,
         }
     }
 
@@ -150,9 +150,9 @@ impl<'t, 'qs> Entries<'t, 'qs> {
             (first_entry (entries_after place (entries_view self.entry))) }
     {
         match self {
-            Entries::Empty => Ok(None),
-            Entries::Map(map) => Ok(entry_at(reader.alloc, map, place)?),
-            Entries::Leaf(leaf) => {
+            NodeEntries::Empty => Ok(None),
+            NodeEntries::Map(map) => Ok(entry_at(reader.alloc, map, place)?),
+            NodeEntries::Leaf(leaf) => {
                 if place == 0 {
                     Ok(Some((String::new(reader.alloc), leaf)))
                 } else {
@@ -182,14 +182,14 @@ fn entry_at<'t, 'qs>(
 
 /// Returns the value under a name.
 #[inline(always)]
-pub(crate) fn find<'t, 'qs>(entries: Entries<'t, 'qs>, name: &str) -> Found<'t, 'qs>
+pub(crate) fn find<'t, 'qs>(entries: NodeEntries<'t, 'qs>, name: &str) -> Found<'t, 'qs>
     requires { NumbersFit (entries_view entries) }
-    ensures { Finds result (found name.now (entries_view entries.entry)) }
+    ensures { IsFound result (found name.now (entries_view entries.entry)) }
 {
     match entries {
-        Entries::Empty => Found::Missing,
-        Entries::Map(map) => find_in_map(map, name),
-        Entries::Leaf(leaf) => {
+        NodeEntries::Empty => Found::Missing,
+        NodeEntries::Map(map) => find_in_map(map, name),
+        NodeEntries::Leaf(leaf) => {
             if name.is_empty() {
                 Found::One(leaf)
             } else {
@@ -203,7 +203,7 @@ pub(crate) fn find<'t, 'qs>(entries: Entries<'t, 'qs>, name: &str) -> Found<'t, 
 #[inline(always)]
 fn find_in_map<'t, 'qs>(map: &'t ParsedMap<'qs>, name: &str) -> Found<'t, 'qs>
     requires { NumbersFit (entries_of_map map.now) }
-    ensures { Finds result (found name.now (entries_of_map map.now)) }
+    ensures { IsFound result (found name.now (entries_of_map map.now)) }
 {
     let by_text = map.get(&Key::from(name));
     match number_of(name) {
@@ -218,7 +218,7 @@ fn either<'t, 'qs>(
     a: Option<&'t ParsedValue<'qs>>,
     b: Option<&'t ParsedValue<'qs>>,
 ) -> Found<'t, 'qs>
-    ensures { Finds result (value_in a.entry ++ value_in b.entry) }
+    ensures { IsFound result (value_in a.entry ++ value_in b.entry) }
 {
     match (a, b) {
         (None, None) => Found::Missing,

@@ -13,7 +13,7 @@ ghost use Rattle.qs_data.specs.read.internal.ReadError.{ReadGives};
 use crate::data::Data;
 use crate::read::by_shape::{Reader, read_node};
 use crate::read::error::Result;
-use crate::read::items::{Items, items_of};
+use crate::read::items::{NodeItems, items_of};
 use crate::read::message::{Expected, Message};
 use crate::shape::Shape;
 use qs_tree::ParsedValue;
@@ -31,7 +31,7 @@ pub(crate) fn read_list(reader: Reader, part: &Shape, value: &ParsedValue<'_>) -
 
 /// Reads each item, by one shape.
 #[cycle(read)]
-pub(crate) fn read_each(reader: Reader, part: &Shape, items: Items<'_, '_>) -> Result<Vec<Data>>
+pub(crate) fn read_each(reader: Reader, part: &Shape, items: NodeItems<'_, '_>) -> Result<Vec<Data>>
     ensures { ReadGives (λ v. map data_of v.items) (are_text (items_view items.entry)) result
         (read_each (reads reader.reject_duplicates (shape_of part.now)) (items_view items.entry)) }
 {
@@ -64,7 +64,7 @@ pub(crate) fn read_tuple(
 // Reads the first items, each by its own shape.
 #[cycle(read)]
 #[tactic(auto, unfolding(qs_spec::specs::internal::ReadFunction::reads))]
-fn read_parts(reader: Reader, parts: &Vec<Shape>, items: Items<'_, '_>) -> Result<Vec<Data>>
+fn read_parts(reader: Reader, parts: &Vec<Shape>, items: NodeItems<'_, '_>) -> Result<Vec<Data>>
     ensures { ReadGives (λ v. map data_of v.items) (are_text (items_view items.entry)) result
         (reads_tuple reader.reject_duplicates (shapes_in parts.now.items) (items_view items.entry)) }
 {

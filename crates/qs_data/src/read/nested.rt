@@ -12,11 +12,11 @@ ghost use Rattle.qs_data.specs.read.Items.{items_view, are_text};
 ghost use Rattle.qs_data.specs.read.TreeText.{entries_are_text};
 ghost use Rattle.qs_data.specs.read.internal.Sizes.{list_size, entries_size};
 ghost use Rattle.qs_data.specs.read.internal.Nesting.{Visits, Advances, Extends, done_of, frame_data, frame_is_text, frame_size};
-ghost use Rattle.qs_data.specs.declared.read.nested.Frame.TheVariants as frame;
+ghost use Rattle.qs_data.specs.declared.read.nested.Partial.TheVariants as frame;
 
 use crate::data::Data;
 use crate::read::error::Result;
-use crate::read::items::{Items, are_integers};
+use crate::read::items::{NodeItems, are_integers};
 use crate::read::key::read_key;
 use crate::read::message::Message;
 use crate::read::scalar::text_data;
@@ -31,26 +31,26 @@ pub(crate) enum Visited<'t, 'qs> {
     /// A leaf, which is read at once.
     Leaf(Data),
     /// A list or a map that isn't read yet.
-    Inner(Frame<'t, 'qs>),
+    Inner(Partial<'t, 'qs>),
 }
 
 /// A list or a map that is partly read.
 #[derive(Drop)]
-pub(crate) enum Frame<'t, 'qs> {
-    List(ListFrame<'t, 'qs>),
-    Map(MapFrame<'t, 'qs>),
+pub(crate) enum Partial<'t, 'qs> {
+    List(PartialList<'t, 'qs>),
+    Map(PartialMap<'t, 'qs>),
 }
 
 /// A list whose first items are read.
-pub(crate) struct ListFrame<'t, 'qs> {
-    items: Items<'t, 'qs>,
+pub(crate) struct PartialList<'t, 'qs> {
+    items: NodeItems<'t, 'qs>,
     /// The index of the first item that wasn't visited.
     next: usize,
     values: Vec<Data>,
 }
 
 /// A map whose first entries are read.
-pub(crate) struct MapFrame<'t, 'qs> {
+pub(crate) struct PartialMap<'t, 'qs> {
     entries: &'t ParsedMap<'qs>,
     /// The index of the first entry that wasn't visited.
     next: usize,
@@ -70,27 +70,27 @@ pub(crate) fn visit<'t, 'qs>(alloc: Global, value: &'t ParsedValue<'qs>) -> Resu
         ParsedValue::Null => Ok(Visited::Leaf(Data::Text(String::new(alloc)))),
         ParsedValue::String(text) => Ok(Visited::Leaf(text_data(alloc, text.as_slice())?)),
         ParsedValue::Sequence(values) => {
-            Ok(Visited::Inner(Frame::list(alloc, Items::Sequence(values))))
+            Ok(Visited::Inner(Partial::list(alloc, NodeItems::Sequence(values))))
         }
         ParsedValue::Map(map) => {
             let is_list = are_integers(map);
             if is_list {
-                Ok(Visited::Inner(Frame::list(alloc, Items::Places(map))))
+                Ok(Visited::Inner(Partial::list(alloc, NodeItems::Places(map))))
             } else {
-                Ok(Visited::Inner(Frame::map(alloc, map)))
+                Ok(Visited::Inner(Partial::map(alloc, map)))
             }
         }
     }
 }
 
-impl<'t, 'qs> Frame<'t, 'qs> {
+impl<'t, 'qs> Partial<'t, 'qs> {
     // Returns a list that isn't read yet.
-    fn list(alloc: Global, items: Items<'t, 'qs>) -> Self
+    fn list(alloc: Global, items: NodeItems<'t, 'qs>) -> Self
         ensures value { frame_data result ≡ option_map (λ ds. sequence (values_of ds)) (read_each any_data (items_view items.entry)) }
         ensures text { frame_is_text result ≡ are_text (items_view items.entry) }
         ensures size { frame_size result ≡ list_size (items_view items.entry) }
     {
-        Frame::List(ListFrame {
+        Partial::List(PartialList {
             items,
             next: 0,
             values: Vec::new(alloc),
@@ -103,7 +103,7 @@ impl<'t, 'qs> Frame<'t, 'qs> {
         ensures text { frame_is_text result ≡ entries_are_text (entries_of_map entries.now) }
         ensures size { frame_size result ≡ entries_size (entries_of_map entries.now) }
     {
-        Frame::Map(MapFrame {
+        Partial::Map(PartialMap {
             entries,
             next: 0,
             key: Data::Unit,
@@ -112,12 +112,12 @@ impl<'t, 'qs> Frame<'t, 'qs> {
     }
 
     /// Reads leaves up to the next inner list or map, and returns it. None if there is no further one.
-    pub fn advance(&mut self, alloc: Global) -> Result<Option<Frame<'t, 'qs>>>
+    pub fn advance(&mut self, alloc: Global) -> Result<Option<Partial<'t, 'qs>>>
         ensures { Advances result self.old self.new }
     {
         match self {
-            Frame::List(list) => list.advance(alloc),
-            Frame::Map(map) => map.advance(alloc),
+            Partial::List(list) => list.advance(alloc),
+            Partial::Map(map) => map.advance(alloc),
         }
     }
 
@@ -127,8 +127,8 @@ impl<'t, 'qs> Frame<'t, 'qs> {
         ensures err { IfErr result (λ e. e ≡ OutOfMemory) }
     {
         match self {
-            Frame::List(list) => list.add(value),
-            Frame::Map(map) => map.add(value),
+            Partial::List(list) => list.add(value),
+            Partial::Map(map) => map.add(value),
         }
     }
 
@@ -137,13 +137,13 @@ impl<'t, 'qs> Frame<'t, 'qs> {
         ensures { data_of result ≡ done_of self.entry }
     {
         match self {
-            Frame::List(list) => Data::Seq(list.into_values()),
-            Frame::Map(map) => Data::Map(map.into_pairs()),
+            Partial::List(list) => Data::Seq(list.into_values()),
+            Partial::Map(map) => Data::Map(map.into_pairs()),
         }
     }
 }
 
-impl Drop for ListFrame<'_, '_> {
+impl Drop for PartialList<'_, '_> {
     // Drops each value by a loop: what was read before an error may be nested deep.
     fn drop(self) {
         for value in self.into_values() {
@@ -152,7 +152,7 @@ impl Drop for ListFrame<'_, '_> {
     }
 }
 
-impl Drop for MapFrame<'_, '_> {
+impl Drop for PartialMap<'_, '_> {
     // Drops each value by a loop, as a list's frame does.
     fn drop(self) {
         for (_key, value) in self.into_pairs() {
@@ -161,12 +161,12 @@ impl Drop for MapFrame<'_, '_> {
     }
 }
 
-impl<'t, 'qs> ListFrame<'t, 'qs> {
+impl<'t, 'qs> PartialList<'t, 'qs> {
     // Returns what was read.
     fn into_values(self) -> Vec<Data>
         ensures { result ≡ self.entry.values }
     {
-        let ListFrame {
+        let PartialList {
             items: _items,
             next: _next,
             values,
@@ -175,7 +175,7 @@ impl<'t, 'qs> ListFrame<'t, 'qs> {
     }
 
     // Reads leaves up to the next list or map.
-    fn advance(&mut self, alloc: Global) -> Result<Option<Frame<'t, 'qs>>>
+    fn advance(&mut self, alloc: Global) -> Result<Option<Partial<'t, 'qs>>>
         ensures { Advances result (frame.List self.old) (frame.List self.new) }
     {
         for place in self.next..self.items.len() {
@@ -203,12 +203,12 @@ impl<'t, 'qs> ListFrame<'t, 'qs> {
     }
 }
 
-impl<'t, 'qs> MapFrame<'t, 'qs> {
+impl<'t, 'qs> PartialMap<'t, 'qs> {
     // Returns what was read.
     fn into_pairs(self) -> Vec<(Data, Data)>
         ensures { result ≡ self.entry.pairs }
     {
-        let MapFrame {
+        let PartialMap {
             entries: _entries,
             next: _next,
             key: _key,
@@ -218,7 +218,7 @@ impl<'t, 'qs> MapFrame<'t, 'qs> {
     }
 
     // Reads leaves up to the next list or map, their keys as texts.
-    fn advance(&mut self, alloc: Global) -> Result<Option<Frame<'t, 'qs>>>
+    fn advance(&mut self, alloc: Global) -> Result<Option<Partial<'t, 'qs>>>
         ensures { Advances result (frame.Map self.old) (frame.Map self.new) }
     {
         for place in self.next..self.entries.len() {

@@ -11,13 +11,13 @@ ghost use Rattle.qs_data.specs.read.TreeText.{is_text};
 ghost use Rattle.qs_data.specs.read.Reads.{reads};
 ghost use Rattle.qs_data.specs.read.Gives.{Gives};
 ghost use Rattle.qs_data.specs.read.Errors.{OnlyCustomUtf8OrOutOfMemory};
-ghost use Rattle.qs_data.specs.read.Found.{Finds};
+ghost use Rattle.qs_data.specs.read.Found.{IsFound};
 ghost use Rattle.qs_data.specs.read.Parsed.{ReturnsData};
 
 use crate::data::Data;
 use crate::read::by_shape::{Reader, read};
 use crate::read::key_test::test_keys;
-use crate::read::keys::{Entries, Found, find};
+use crate::read::keys::{Found, NodeEntries, find};
 use crate::shape::Shape;
 use qs_tree::{Config, ParsedMap, ParsedValue, Result};
 use std::alloc::Global;
@@ -54,9 +54,9 @@ pub fn read_value(
 /// let found = find_value(&map, "age"); // Found::Missing, Found::One(value) or Found::Several
 /// ```
 pub fn find_value<'t, 'qs>(map: &'t ParsedMap<'qs>, name: &str) -> Found<'t, 'qs>
-    ensures { Finds result (found name.now (entries_of_map map.now)) }
+    ensures { IsFound result (found name.now (entries_of_map map.now)) }
 {
-    let entries = Entries::Map(map);
+    let entries = NodeEntries::Map(map);
     let _numbers_fit = test_keys(entries);
     find(entries, name)
 }

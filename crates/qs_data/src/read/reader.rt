@@ -22,8 +22,8 @@ ghost use Rattle.qs_data.specs.read.internal.ReadError.{ReadRejects};
 use crate::data::Data;
 use crate::read::by_shape::{Reader, read};
 use crate::read::error::ReadError;
-use crate::read::items::{Items, items_of};
-use crate::read::keys::Entries;
+use crate::read::items::{NodeItems, items_of};
+use crate::read::keys::NodeEntries;
 use crate::read::message::{Expected, Message, Unexpected};
 use crate::read::scalar::{
     as_text, read_bool, read_char, read_signed, read_text, read_unit, read_unsigned,
@@ -144,7 +144,7 @@ impl Reader {
     /// ```
     /// let items = reader.items(node)?;
     /// ```
-    pub fn items<'t, 'qs>(self, node: &'t ParsedValue<'qs>) -> Result<Items<'t, 'qs>>
+    pub fn items<'t, 'qs>(self, node: &'t ParsedValue<'qs>) -> Result<NodeItems<'t, 'qs>>
         ensures exact { Gives items_view true result (items (tree_of node.now)) }
         ensures text { IfOk result (λ xs. are_text (items_view xs) ≡ false → is_text (tree_of node.now) ≡ false) }
     {
@@ -157,7 +157,11 @@ impl Reader {
     /// ```
     /// let items = reader.tuple(2, node)?;
     /// ```
-    pub fn tuple<'t, 'qs>(self, size: usize, node: &'t ParsedValue<'qs>) -> Result<Items<'t, 'qs>>
+    pub fn tuple<'t, 'qs>(
+        self,
+        size: usize,
+        node: &'t ParsedValue<'qs>,
+    ) -> Result<NodeItems<'t, 'qs>>
         ensures exact { Gives items_view true result (items (tree_of node.now)) }
         ensures text { IfOk result (λ xs. are_text (items_view xs) ≡ false → is_text (tree_of node.now) ≡ false) }
     {
@@ -176,14 +180,14 @@ impl Reader {
     /// let entries = reader.entries(node)?;
     /// ```
     #[tactic(auto, using(crate::proofs::lemmas::read::Variants::under_bad))]
-    pub fn entries<'t, 'qs>(self, node: &'t ParsedValue<'qs>) -> Result<Entries<'t, 'qs>>
+    pub fn entries<'t, 'qs>(self, node: &'t ParsedValue<'qs>) -> Result<NodeEntries<'t, 'qs>>
         ensures exact { Gives entries_view true result (node_entries (tree_of node.now)) }
         ensures text { IfOk result (λ es. entries_are_text (entries_view es) ≡ false → is_text (tree_of node.now) ≡ false) }
     {
         match node {
-            ParsedValue::NoValue | ParsedValue::Null => Ok(Entries::Empty),
-            ParsedValue::String(_) => Ok(Entries::Leaf(node)),
-            ParsedValue::Map(map) => Ok(Entries::Map(map)),
+            ParsedValue::NoValue | ParsedValue::Null => Ok(NodeEntries::Empty),
+            ParsedValue::String(_) => Ok(NodeEntries::Leaf(node)),
+            ParsedValue::Map(map) => Ok(NodeEntries::Map(map)),
             ParsedValue::Sequence(_) | ParsedValue::Uninitialized => {
                 let error = Message::mismatch(self.alloc, node, Expected::Map);
                 Err(Error::from(error))
@@ -262,7 +266,7 @@ impl Reader {
     pub fn tuple_variant<'t, 'qs>(
         self,
         held: Option<&'t ParsedValue<'qs>>,
-    ) -> Result<Items<'t, 'qs>>
+    ) -> Result<NodeItems<'t, 'qs>>
         ensures exact { Gives items_view true result (option_and_then items (option_map (λ v. tree_of v.now) held.entry)) }
         ensures text { IfOk result (λ xs. are_text (items_view xs) ≡ false → held_is_text (option_map (λ v. tree_of v.now) held.entry) ≡ false) }
     {
@@ -319,7 +323,7 @@ impl Reader {
         self,
         expected: Expected,
         node: &'t ParsedValue<'qs>,
-    ) -> Result<Items<'t, 'qs>>
+    ) -> Result<NodeItems<'t, 'qs>>
         ensures exact { Gives items_view true result (items (tree_of node.now)) }
         ensures text { IfOk result (λ xs. are_text (items_view xs) ≡ false → is_text (tree_of node.now) ≡ false) }
     {

@@ -13,7 +13,7 @@ ghost use Rattle.qs_data.specs.read.Keys.{entries_view, unknown_of, when};
 
 use crate::read::by_shape::Reader;
 use crate::read::error::{ReadError, Result};
-use crate::read::keys::Entries;
+use crate::read::keys::NodeEntries;
 use crate::read::message::{Message, key_error};
 use crate::read::scalar::as_text;
 use crate::shape::{Field, is_field_name};
@@ -76,7 +76,7 @@ impl UnknownKeys {
         self,
         reader: Reader,
         names: &N,
-        entries: Entries<'_, '_>,
+        entries: NodeEntries<'_, '_>,
     ) -> Result<(), Error>
         ensures { let es = entries_view entries.entry in
             Gives (λ _. tt) (keys_are_text es) result (when (keys_are_names (N.fields names.now) es || are_ignored (unknown_of self))) }
@@ -90,15 +90,15 @@ impl UnknownKeys {
         self,
         alloc: Global,
         names: &N,
-        entries: Entries<'_, '_>,
+        entries: NodeEntries<'_, '_>,
     ) -> Result<()>
         ensures { let es = entries_view entries.entry in
             ReadGives (λ _. tt) (keys_are_text es) result (when (keys_are_names (N.fields names.now) es || are_ignored (unknown_of self))) }
     {
         match (self, entries) {
-            (UnknownKeys::Ignored, _) | (_, Entries::Empty) => Ok(()),
-            (UnknownKeys::Rejected, Entries::Leaf(_)) => test_name(alloc, names, &[]),
-            (UnknownKeys::Rejected, Entries::Map(map)) => test_map(alloc, names, map),
+            (UnknownKeys::Ignored, _) | (_, NodeEntries::Empty) => Ok(()),
+            (UnknownKeys::Rejected, NodeEntries::Leaf(_)) => test_name(alloc, names, &[]),
+            (UnknownKeys::Rejected, NodeEntries::Map(map)) => test_map(alloc, names, map),
         }
     }
 }

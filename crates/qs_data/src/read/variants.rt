@@ -19,7 +19,7 @@ use crate::data::Data;
 use crate::read::by_shape::{Reader, read_node};
 use crate::read::error::Result;
 use crate::read::fields::{read_entries, read_struct};
-use crate::read::keys::Entries;
+use crate::read::keys::NodeEntries;
 use crate::read::lists::read_tuple;
 use crate::read::message::{Expected, Message, Unexpected};
 use crate::read::scalar::as_text;
@@ -180,7 +180,7 @@ fn read_variant_fields(
         (struct_members (keys_are_allowed (unknown_of unknown) fs) (reads_names reader.reject_duplicates fs) (reads_places reader.reject_duplicates fs) (as_map (tree_of value.now))) }
 {
     match value {
-        ParsedValue::String(_) => read_entries(reader, unknown, fields, Entries::Leaf(value)),
+        ParsedValue::String(_) => read_entries(reader, unknown, fields, NodeEntries::Leaf(value)),
         _ => read_struct(reader, unknown, fields, value),
     }
 }

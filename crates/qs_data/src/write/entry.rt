@@ -76,38 +76,42 @@ impl Walk {
 
 // Appends one more segment: the first after an `&`, and the others in brackets.
 #[tactic(auto, using(crate::proofs::lemmas::write::Visible::joined))]
-fn append_segment(out: &mut TextBuffer, form: bool, segment: Scalar<'_>) -> Result<(), AllocError>
-    ensures ok { OnOk result (out.new ≡ grown form out.old (scalar_text segment.entry)) }
+fn append_segment(
+    out: &mut TextBuffer,
+    is_form: bool,
+    segment: Scalar<'_>,
+) -> Result<(), AllocError>
+    ensures ok { OnOk result (out.new ≡ grown is_form out.old (scalar_text segment.entry)) }
     ensures visible { All IsVisible out.old → OnOk result (All IsVisible out.new) }
 {
     if out.len() == 0 {
         out.append(b"&")?;
-        return segment.append(form, out);
+        return segment.append(is_form, out);
     }
-    open_bracket(form, out)?;
-    segment.append(form, out)?;
-    close_bracket(form, out)?;
+    open_bracket(is_form, out)?;
+    segment.append(is_form, out)?;
+    close_bracket(is_form, out)?;
     Ok(())
 }
 
-// Appends an opening bracket, encoded if `form`.
+// Appends an opening bracket, encoded if `is_form`.
 #[inline(always)]
-fn open_bracket(form: bool, out: &mut TextBuffer) -> Result<(), AllocError>
-    ensures { OnOk result (out.new ≡ out.old ++ open_bytes form) }
+fn open_bracket(is_form: bool, out: &mut TextBuffer) -> Result<(), AllocError>
+    ensures { OnOk result (out.new ≡ out.old ++ open_bytes is_form) }
 {
-    if form {
+    if is_form {
         out.append(b"%5B")
     } else {
         out.append(b"[")
     }
 }
 
-// Appends a closing bracket, encoded if `form`.
+// Appends a closing bracket, encoded if `is_form`.
 #[inline(always)]
-fn close_bracket(form: bool, out: &mut TextBuffer) -> Result<(), AllocError>
-    ensures { OnOk result (out.new ≡ out.old ++ close_bytes form) }
+fn close_bracket(is_form: bool, out: &mut TextBuffer) -> Result<(), AllocError>
+    ensures { OnOk result (out.new ≡ out.old ++ close_bytes is_form) }
 {
-    if form {
+    if is_form {
         out.append(b"%5D")
     } else {
         out.append(b"]")
@@ -119,13 +123,13 @@ fn close_bracket(form: bool, out: &mut TextBuffer) -> Result<(), AllocError>
 #[tactic(auto, using(crate::proofs::lemmas::write::Visible::joined))]
 fn append_value<'a>(
     out: &mut TextBuffer,
-    form: bool,
+    is_form: bool,
     value: Option<Scalar<'a>>,
 ) -> Result<&'a [u8], AllocError>
-    ensures ok { IfOk result (λ rest. out.new ++ encoded form rest.now ≡ out.old ++ value_text form (option_map scalar_text value.entry)) }
+    ensures ok { IfOk result (λ rest. out.new ++ encoded is_form rest.now ≡ out.old ++ value_text is_form (option_map scalar_text value.entry)) }
     ensures kept { IfOk result (λ rest. take (length out.old) out.new ≡ out.old) }
-    ensures visible { All IsVisible out.old → IfOk result (λ rest. All IsVisible (out.new ++ encoded form rest.now)) }
-    ensures bare { IsNone value.entry → OnErr result ⊥ }
+    ensures visible { All IsVisible out.old → IfOk result (λ rest. All IsVisible (out.new ++ encoded is_form rest.now)) }
+    ensures unallocated { IsNone value.entry → OnErr result ⊥ }
 {
     let Some(scalar) = value else {
         return Ok(&[]);
@@ -135,7 +139,7 @@ fn append_value<'a>(
     if !rest.is_empty() {
         return Ok(rest);
     }
-    scalar.append(form, out)?;
+    scalar.append(is_form, out)?;
     Ok(&[])
 }
 
@@ -147,14 +151,14 @@ pub(crate) fn put<S: Sink>(
 ) -> Result<(), Stop>
     ensures writes { WritesTo S.taken S.failed S.writer_name result stream.old stream.new walk.old walk.new
         (λ config path. one path (option_map scalar_text value.entry)) }
-    ensures bare { walk.old.text ≡ [] → IsNone value.entry → result ≡ Err OutOfMemory → ⊥ }
+    ensures unallocated { walk.old.text ≡ [] → IsNone value.entry → result ≡ Err OutOfMemory → ⊥ }
 {
-    let form = walk.config.get_form();
+    let is_form = walk.config.get_form();
     let len = walk.text.len();
-    let rest = append_value(&mut walk.text, form, value)?;
+    let rest = append_value(&mut walk.text, is_form, value)?;
     let start = skipped(stream.started, len);
     put_all(&mut stream.sink, walk.text.after(start))?;
-    put_encoded(&mut stream.sink, rest, form)?;
+    put_encoded(&mut stream.sink, rest, is_form)?;
     walk.text.truncate(len);
     stream.started |= len != 0;
     Ok(())
@@ -164,7 +168,7 @@ pub(crate) fn put<S: Sink>(
 pub(crate) fn put_empty<S: Sink>(stream: &mut Stream<S>, walk: &mut Walk) -> Result<(), Stop>
     ensures writes { WritesTo S.taken S.failed S.writer_name result stream.old stream.new walk.old walk.new
         (λ config path. one path (Some [])) }
-    ensures bare { walk.old.text ≡ [] → result ≡ Err OutOfMemory → ⊥ }
+    ensures unallocated { walk.old.text ≡ [] → result ≡ Err OutOfMemory → ⊥ }
 {
     if walk.text.len() != 0 {
         return put(stream, walk, Some(Scalar::Bytes(&[])));

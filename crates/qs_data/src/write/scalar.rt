@@ -101,7 +101,7 @@ impl<'a> Scalar<'a> {
     #[inline(always)]
     pub(crate) fn long_bytes(self) -> &'a [u8]
         ensures which { (length result.now ≡ 0) ⊎ (result.now ≡ scalar_text self.entry) }
-        ensures visible { (form : Bool) → All IsVisible (encoded form result.now) }
+        ensures visible { (is_form : Bool) → All IsVisible (encoded is_form result.now) }
     {
         match self {
             Scalar::Bytes(bytes) => long(bytes),
@@ -111,16 +111,16 @@ impl<'a> Scalar<'a> {
 
     /// Appends its text, encoded. Digits and words hold nothing to encode.
     #[inline(always)]
-    pub(crate) fn append(self, form: bool, out: &mut TextBuffer) -> Result<(), AllocError>
-        ensures ok { OnOk result (out.new ≡ out.old ++ encoded form (scalar_text self.entry)) }
-        ensures visible { All IsVisible (encoded form (scalar_text self.entry)) }
+    pub(crate) fn append(self, is_form: bool, out: &mut TextBuffer) -> Result<(), AllocError>
+        ensures ok { OnOk result (out.new ≡ out.old ++ encoded is_form (scalar_text self.entry)) }
+        ensures visible { All IsVisible (encoded is_form (scalar_text self.entry)) }
     {
         match self {
-            Scalar::Bytes(bytes) => out.append_encoded(bytes, form),
+            Scalar::Bytes(bytes) => out.append_encoded(bytes, is_form),
             Scalar::Bool(value) => out.append(word(value).as_bytes()),
             Scalar::Unsigned(n) => append_unsigned(n, out),
             Scalar::Signed(n) => append_signed(n, out),
-            Scalar::Char(c) => out.append_encoded(c.encode_utf8(&mut [0; 4]).as_bytes(), form),
+            Scalar::Char(c) => out.append_encoded(c.encode_utf8(&mut [0; 4]).as_bytes(), is_form),
         }
     }
 }
@@ -136,7 +136,7 @@ pub(crate) fn word(value: bool) -> &'static str
 #[tactic(auto, using(crate::proofs::lemmas::write::Visible::encoded_visible))]
 fn long(bytes: &[u8]) -> &[u8]
     ensures which { (length result.now ≡ 0) ⊎ (result.now ≡ bytes.now) }
-    ensures visible { (form : Bool) → All IsVisible (encoded form result.now) }
+    ensures visible { (is_form : Bool) → All IsVisible (encoded is_form result.now) }
 {
     if bytes.len() <= PIECE {
         return &[];
@@ -147,8 +147,8 @@ fn long(bytes: &[u8]) -> &[u8]
 // Appends the digits of the number.
 #[tactic(auto, using(crate::proofs::lemmas::write::Visible::numbers))]
 fn append_unsigned(n: u64, out: &mut TextBuffer) -> Result<(), AllocError>
-    ensures ok { (form : Bool) → OnOk result (out.new ≡ out.old ++ encoded form (decimal n)) }
-    ensures visible { (form : Bool) → All IsVisible (encoded form (decimal n)) }
+    ensures ok { (is_form : Bool) → OnOk result (out.new ≡ out.old ++ encoded is_form (decimal n)) }
+    ensures visible { (is_form : Bool) → All IsVisible (encoded is_form (decimal n)) }
 {
     out.append(Buffer::new().format(n).as_bytes())
 }
@@ -156,8 +156,8 @@ fn append_unsigned(n: u64, out: &mut TextBuffer) -> Result<(), AllocError>
 // Appends the digits of the number, after `-` if it is negative.
 #[tactic(auto, using(crate::proofs::lemmas::write::Visible::numbers))]
 fn append_signed(n: i64, out: &mut TextBuffer) -> Result<(), AllocError>
-    ensures ok { (form : Bool) → OnOk result (out.new ≡ out.old ++ encoded form (signed_decimal n)) }
-    ensures visible { (form : Bool) → All IsVisible (encoded form (signed_decimal n)) }
+    ensures ok { (is_form : Bool) → OnOk result (out.new ≡ out.old ++ encoded is_form (signed_decimal n)) }
+    ensures visible { (is_form : Bool) → All IsVisible (encoded is_form (signed_decimal n)) }
 {
     out.append(Buffer::new().format(n).as_bytes())
 }

@@ -10,8 +10,8 @@ ghost use Rattle.qs_data.specs.data.Views.{data_of};
 
 use crate::data::Data;
 use crate::write::entry::{Stream, Walk};
-use crate::write::kept::Kept;
 use crate::write::sink::{ByWrite, Sink};
+use crate::write::sink_with_error::SinkWithError;
 use crate::write::stop::Stop;
 use crate::write::walk::write_all;
 use qs_tree::{Config, Error, Result};
@@ -30,7 +30,7 @@ use std::{io, mem};
 #[derive(Drop)]
 pub struct Serializer<S: Sink> {
     config: Config,
-    stream: Stream<Kept<S>>,
+    stream: Stream<SinkWithError<S>>,
     failed: bool,
 }
 
@@ -65,7 +65,7 @@ impl<W: Write + Drop> Serializer<ByWrite<W>> {
 
 impl<S: Sink> Serializer<S> {
     ghost use Rattle.qs_data.specs.write.State.{output_of, text_of};
-    ghost use Rattle.qs_data.specs.write.State.{IsVisible, IsBare};
+    ghost use Rattle.qs_data.specs.write.State.{IsVisible, IsUnallocated};
     ghost use Rattle.qs_data.specs.write.Errors.{IsWriteError};
 
     /// Returns a serializer over a sink that has not failed. Nothing is put yet, and nothing is allocated.
@@ -83,7 +83,7 @@ impl<S: Sink> Serializer<S> {
         Serializer {
             config,
             stream: Stream {
-                sink: Kept::new(sink),
+                sink: SinkWithError::new(sink),
                 started: false,
             },
             failed: false,
@@ -140,8 +140,8 @@ impl<S: Sink> Serializer<S> {
         ensures io_text { IsIo result → (n : ℕ) × (n < length (text_of self.old (data_of datum.now)))
             × Appends (S.taken self.old.sink) (S.taken self.new.sink) (take n (text_of self.old (data_of datum.now))) }
         ensures memory_text { IsOutOfMemory result → (k : ℕ) × Appends (S.taken self.old.sink) (S.taken self.new.sink)
-            (written self.old.config.form self.old.started (take k (output_of self.old (data_of datum.now)).entries)) }
-        ensures no_allocation { IsBare (data_of datum.now) → IsOutOfMemory result → ⊥ }
+            (written self.old.config.is_form self.old.started (take k (output_of self.old (data_of datum.now)).entries)) }
+        ensures no_allocation { IsUnallocated (data_of datum.now) → IsOutOfMemory result → ⊥ }
         ensures failed { IsFailed result ↔ (self.old.failed ≡ true) }
         ensures failed_keeps { IsFailed result → self.new ≡ self.old }
         ensures errors { IsWriteError result }

@@ -142,17 +142,17 @@ pub(crate) fn put_all<S: Sink>(sink: &mut S, bytes: &[u8]) -> Result<(), Stop>
 }
 
 /// Puts all of these bytes, encoded, piece by piece, until a put fails. It doesn't allocate.
-pub(crate) fn put_encoded<S: Sink>(sink: &mut S, bytes: &[u8], form: bool) -> Result<(), Stop>
-    ensures all { OnOk result (Appends (S.taken sink.old) (S.taken sink.new) (encoded form bytes.now)) }
-    ensures part { IfErr result (λ stop. (stop ≡ Io) × (n : ℕ) × (n < length (encoded form bytes.now))
-        × Appends (S.taken sink.old) (S.taken sink.new) (take n (encoded form bytes.now))) }
+pub(crate) fn put_encoded<S: Sink>(sink: &mut S, bytes: &[u8], is_form: bool) -> Result<(), Stop>
+    ensures all { OnOk result (Appends (S.taken sink.old) (S.taken sink.new) (encoded is_form bytes.now)) }
+    ensures part { IfErr result (λ stop. (stop ≡ Io) × (n : ℕ) × (n < length (encoded is_form bytes.now))
+        × Appends (S.taken sink.old) (S.taken sink.new) (take n (encoded is_form bytes.now))) }
     ensures fails { S.failed sink.new ≡ (S.failed sink.old || is_err result) }
     ensures same_writer { S.writer_name sink.new ≡ S.writer_name sink.old }
 {
     let mut rest = bytes;
     while !rest.is_empty() {
         let (piece, tail) = rest.split_at(rest.len().min(PIECE));
-        put_piece(sink, piece, form)?;
+        put_piece(sink, piece, is_form)?;
         rest = tail;
     }
     Ok(())
@@ -161,15 +161,15 @@ pub(crate) fn put_encoded<S: Sink>(sink: &mut S, bytes: &[u8], form: bool) -> Re
 // Puts a piece of a text, encoded.
 #[inline(never)]
 #[tactic(auto, using(qs_tree::proofs::lemmas::escape::EncodedFronts::encoded_few))]
-fn put_piece<S: Sink>(sink: &mut S, bytes: &[u8], form: bool) -> Result<(), Stop>
+fn put_piece<S: Sink>(sink: &mut S, bytes: &[u8], is_form: bool) -> Result<(), Stop>
     requires { length bytes.now ≤ PIECE }
-    ensures all { OnOk result (Appends (S.taken sink.old) (S.taken sink.new) (encoded form bytes.now)) }
-    ensures part { IfErr result (λ stop. (stop ≡ Io) × (n : ℕ) × (n < length (encoded form bytes.now))
-        × Appends (S.taken sink.old) (S.taken sink.new) (take n (encoded form bytes.now))) }
+    ensures all { OnOk result (Appends (S.taken sink.old) (S.taken sink.new) (encoded is_form bytes.now)) }
+    ensures part { IfErr result (λ stop. (stop ≡ Io) × (n : ℕ) × (n < length (encoded is_form bytes.now))
+        × Appends (S.taken sink.old) (S.taken sink.new) (take n (encoded is_form bytes.now))) }
     ensures fails { S.failed sink.new ≡ (S.failed sink.old || is_err result) }
     ensures same_writer { S.writer_name sink.new ≡ S.writer_name sink.old }
 {
     let mut room = [0; 3 * PIECE];
-    let len = encode_to(bytes, form, &mut room, 0);
+    let len = encode_to(bytes, is_form, &mut room, 0);
     put_all(sink, &room[..len])
 }

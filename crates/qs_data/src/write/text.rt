@@ -77,12 +77,12 @@ impl TextBuffer {
     /// Appends bytes, encoded.
     #[inline(always)]
     #[tactic(auto, using(qs_tree::proofs::lemmas::escape::EncodedFronts::encoded_few, crate::proofs::lemmas::write::Visible::encoded_visible))]
-    pub(crate) fn append_encoded(&mut self, bytes: &[u8], form: bool) -> Result<(), AllocError>
-        ensures ok { OnOk result (self.new ≡ self.old ++ encoded form bytes.now) }
-        ensures visible { All IsVisible (encoded form bytes.now) }
+    pub(crate) fn append_encoded(&mut self, bytes: &[u8], is_form: bool) -> Result<(), AllocError>
+        ensures ok { OnOk result (self.new ≡ self.old ++ encoded is_form bytes.now) }
+        ensures visible { All IsVisible (encoded is_form bytes.now) }
     {
         make_room(&mut self.room, self.len, bytes.len().saturating_mul(3))?;
-        self.len = encode_to(bytes, form, &mut self.room, self.len);
+        self.len = encode_to(bytes, is_form, &mut self.room, self.len);
         Ok(())
     }
 }

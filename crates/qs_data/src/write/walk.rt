@@ -6,7 +6,7 @@ ghost use Rattle.qs_data.specs.data.Views.{data_of, values_in, pairs_in, members
 ghost use Rattle.qs_data.specs.write.Parts.{data_part, elements_part, element, pairs_part, members_part, under};
 ghost use Rattle.qs_data.specs.write.Scalars.{scalar_text};
 ghost use Rattle.qs_data.specs.write.Writes.{IsAt, Writes, WritesTo, state_in};
-ghost use Rattle.qs_data.specs.write.State.{IsBare};
+ghost use Rattle.qs_data.specs.write.State.{IsUnallocated};
 ghost use Rattle.qs_data.specs.declared.write.stop.Stop.TheVariants.{OutOfMemory};
 
 use crate::data::Data;
@@ -26,7 +26,7 @@ pub(crate) fn write_all<S: Sink>(
     requires { IsAt config [] walk.old }
     ensures writes { Writes result config [] (state_in S.taken S.failed S.writer_name stream.old) (state_in S.taken S.failed S.writer_name stream.new) walk.new
         (entries config (data_of datum.now)) }
-    ensures bare { IsBare (data_of datum.now) → result ≡ Err OutOfMemory → ⊥ }
+    ensures unallocated { IsUnallocated (data_of datum.now) → result ≡ Err OutOfMemory → ⊥ }
 {
     write_data(stream, walk, datum)
 }
@@ -40,7 +40,7 @@ pub(crate) fn write_data<'a, S: Sink>(
     datum: &'a Data,
 ) -> Result<(), Stop>
     ensures writes { WritesTo S.taken S.failed S.writer_name result stream.old stream.new walk.old walk.new (data_part (data_of datum.now)) }
-    ensures bare { IsBare (data_of datum.now) → walk.old.text ≡ [] → result ≡ Err OutOfMemory → ⊥ }
+    ensures unallocated { IsUnallocated (data_of datum.now) → walk.old.text ≡ [] → result ≡ Err OutOfMemory → ⊥ }
 {
     match datum {
         Data::Unit => put_empty(stream, walk),

@@ -3,12 +3,12 @@ use Rattle.std.specs.declared.alloc.AllocError.{AllocError}
 use Rattle.qs_spec.specs.Config.{are_rejected}
 use Rattle.qs_spec.specs.Leaf.Leaf.{NoValue, Null}
 use Rattle.qs_spec.specs.Node.{IsFull, found, items}
-use Rattle.qs_spec.specs.Segment.{MarkedSegment}
+use Rattle.qs_spec.specs.Segment.{ParsedSegment}
 use Rattle.qs_spec.specs.Segment.Segment.{Int, Str}
 use Rattle.qs_spec.specs.Shape as s
 use Rattle.qs_spec.specs.Tree.{Tree}
 use Rattle.qs_spec.specs.Tree.Tree.{leaf, sequence, mapping, uninitialized}
-use Rattle.qs_tree.specs.tree.Views.{tree_of, items_from, entries_of_map, segment_of_key, marked_segment_of_key}
+use Rattle.qs_tree.specs.tree.Views.{tree_of, items_from, entries_of_map, segment_of_key, parsed_segment_of_key}
 use Rattle.qs_tree.specs.declared.tree.value.ParsedValue as value
 use Rattle.qs_data.specs.declared.shape.shape.Shape as shape
 use Rattle.qs_data.specs.declared.shape.shape.Field.{out-Field}
@@ -121,7 +121,7 @@ fields::find_in_field-returns-in-One t c =
     let r = c.find_under.result in
     let name : c.deref-name.result.now ≡ f.0 = c.deref-name.ensures ∙ sym (field_name d) in
     let one : found f.0 es ≡ n ∷ [] = ap (λ x. found x es) (sym name) ∙ c.in-One.ensures in
-    let key : segment_of_key c.from.result ≡ Str f.0 = ap (λ (x : MarkedSegment). x.seg) c.from.ensures ∙ ap Str name in
+    let key : segment_of_key c.from.result ≡ Str f.0 = ap (λ (x : ParsedSegment). x.segment) c.from.ensures ∙ ap Str name in
     let by_key = subst (λ k. FindsBelow rd k (shape_of (out-Field d).shape) n r) key c.find_under.ensures in
     let by_shape = subst (λ x. FindsBelow rd (Str f.0) x n r) (sym (field_shape d)) by_key in
     subst (λ ts. FindsAmong rd (name_child f.0 f.1 f.2 ts) r) (sym one) (children.among_one rd (Str f.0) f.1 n r by_shape)
@@ -133,7 +133,7 @@ fields::find_missing-returns t c =
     let f = field_of d in
     let r = c.find_under.result in
     let name : c.deref-name.result.now ≡ f.0 = c.deref-name.ensures ∙ sym (field_name d) in
-    let key : segment_of_key c.from.result ≡ Str f.0 = ap (λ (x : MarkedSegment). x.seg) c.from.ensures ∙ ap Str name in
+    let key : segment_of_key c.from.result ≡ Str f.0 = ap (λ (x : ParsedSegment). x.segment) c.from.ensures ∙ ap Str name in
     let by_key = subst (λ k. FindsBelow rd k (shape_of (out-Field d).shape) uninitialized r) key c.find_under.ensures in
     let by_shape = subst (λ x. FindsBelow rd (Str f.0) x uninitialized r) (sym (field_shape d)) by_key in
     let optional : f.2 ≡ false = field_optional d ∙ c.if-field.false in
@@ -154,7 +154,7 @@ pairs::find_in_map-returns-in-String t c =
     let rd = are_rejected c.args.config.duplicates in
     let s = shape_of c.args.part.now in
     let r = c.find_under.result in
-    let key : segment_of_key c.from.result ≡ Str [] = ap (λ (x : MarkedSegment). x.seg) c.from.ensures in
+    let key : segment_of_key c.from.result ≡ Str [] = ap (λ (x : ParsedSegment). x.segment) c.from.ensures in
     let by_key = subst (λ k. FindsBelow rd k s (tree_of c.args.node.now) r) key c.find_under.ensures in
     let by_text = subst (λ x. FindsBelow rd (Str []) s (tree_of x) r) c.in-String.is by_key in
     subst (λ x. FindsAmong rd (map_children s (tree_of x)) r) (sym c.in-String.is) (children.text_found rd s c.in-String.field-0 r by_text)
@@ -164,9 +164,9 @@ pairs::find_in_pairs-returns-in-loop-i t c =
     let rd = are_rejected c.args.config.duplicates in
     let s = shape_of c.args.part.now in
     let es = entries_of_map c.args.map.now in
-    let x : MarkedSegment × Tree = (marked_segment_of_key c.in-Some.key.now, tree_of c.in-Some.value.now) in
+    let x : ParsedSegment × Tree = (parsed_segment_of_key c.in-Some.key.now, tree_of c.in-Some.value.now) in
     let m = c.in-Some-2.mismatch in
-    let below = subst (λ o. FindsBelow {E = AllocError} rd x.0.seg s x.1 (Ok o)) c.in-Some-2.is c.in_ok-mismatch.ensures in
+    let below = subst (λ o. FindsBelow {E = AllocError} rd x.0.segment s x.1 (Ok o)) c.in-Some-2.is c.in_ok-mismatch.ensures in
     c.loop-i.invariant (Ok (Some m)) (children.pairs_fails {E = AllocError} rd c.loop-i.i (Ok (Some m)) s es x m (sym c.in-Some.ensures.value) below)
 
 pub pairs::find_in_pairs-loop-i-preserved : goal.pairs::find_in_pairs-loop-i-preserved
@@ -174,8 +174,8 @@ pairs::find_in_pairs-loop-i-preserved t c r rest =
     let rd = are_rejected c.args.config.duplicates in
     let s = shape_of c.args.part.now in
     let es = entries_of_map c.args.map.now in
-    let x : MarkedSegment × Tree = (marked_segment_of_key c.in-Some.key.now, tree_of c.in-Some.value.now) in
-    let read = subst (λ o. FindsBelow {E = AllocError} rd x.0.seg s x.1 (Ok o)) c.in_default-2.is c.in_ok-mismatch.ensures in
+    let x : ParsedSegment × Tree = (parsed_segment_of_key c.in-Some.key.now, tree_of c.in-Some.value.now) in
+    let read = subst (λ o. FindsBelow {E = AllocError} rd x.0.segment s x.1 (Ok o)) c.in_default-2.is c.in_ok-mismatch.ensures in
     c.loop-i.invariant r (children.pairs_more rd c.loop-i.i r s es x (sym c.in-Some.ensures.value) read rest)
 
 pub pairs::find_in_pairs-returns : goal.pairs::find_in_pairs-returns
@@ -368,23 +368,23 @@ enums::find_in_named-find_in_variant-requires t c =
     let rd = are_rejected c.args.config.duplicates in
     let ds = c.args.variants.now.items in
     let es = entries_of_map c.args.map.now in
-    let key = marked_segment_of_key c.in-Some.key.now in
+    let key = parsed_segment_of_key c.in-Some.key.now in
     let n = tree_of c.in-Some.value.now in
-    let first : es ≡ entry key.seg key.mark n (entries_after 1 es) = after_some 0 es (key, n) (sym c.in-Some.ensures.value) in
+    let first : es ≡ entry key.segment key.escaped n (entries_after 1 es) = after_some 0 es (key, n) (sym c.in-Some.ensures.value) in
     let i = c.in-Some-find_variant.index in
     let v = c.index-variant.result.now in
-    let at = variant_at (segment_text key.seg) ds _ i v c.deref.ensures.value c.in-Some-find_variant.ensures.named c.in-Some-find_variant.ensures.index c.index-variant.ensures in
-    (omega (arith, c.decreases, kind_within ds i v at.1 c.index-variant.ensures), held_unread rd (variants_in ds) es (entries_after 1 es) key.seg key.mark n v first at.0 c.requires)
+    let at = variant_at (segment_text key.segment) ds _ i v c.deref.ensures.value c.in-Some-find_variant.ensures.named c.in-Some-find_variant.ensures.index c.index-variant.ensures in
+    (omega (arith, c.decreases, kind_within ds i v at.1 c.index-variant.ensures), held_unread rd (variants_in ds) es (entries_after 1 es) key.segment key.escaped n v first at.0 c.requires)
 
 pub enums::find_in_named-returns : goal.enums::find_in_named-returns
 enums::find_in_named-returns t c =
     let rd = are_rejected c.args.config.duplicates in
     let ds = c.args.variants.now.items in
     let es = entries_of_map c.args.map.now in
-    let key = marked_segment_of_key c.in-Some.key.now in
+    let key = parsed_segment_of_key c.in-Some.key.now in
     let n = tree_of c.in-Some.value.now in
-    let first : es ≡ entry key.seg key.mark n (entries_after 1 es) = after_some 0 es (key, n) (sym c.in-Some.ensures.value) in
+    let first : es ≡ entry key.segment key.escaped n (entries_after 1 es) = after_some 0 es (key, n) (sym c.in-Some.ensures.value) in
     let i = c.in-Some-find_variant.index in
     let v = c.index-variant.result.now in
-    let at = variant_at (segment_text key.seg) ds _ i v c.deref.ensures.value c.in-Some-find_variant.ensures.named c.in-Some-find_variant.ensures.index c.index-variant.ensures in
-    enum_found rd (variants_in ds) es (entries_after 1 es) key.seg key.mark n v c.find_in_variant.result first at.0 c.find_in_variant.ensures
+    let at = variant_at (segment_text key.segment) ds _ i v c.deref.ensures.value c.in-Some-find_variant.ensures.named c.in-Some-find_variant.ensures.index c.index-variant.ensures in
+    enum_found rd (variants_in ds) es (entries_after 1 es) key.segment key.escaped n v c.find_in_variant.result first at.0 c.find_in_variant.ensures

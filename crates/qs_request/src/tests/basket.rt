@@ -20,7 +20,7 @@ const NAMES: &[&str] = &["foo", "bars"];
 impl Compound for Basket {
     ghost table = { made_of ⟦<BasketParts as Parts>⟧.table NAMES.now (λ basket. record { 0 = (basket.foo, (basket.bars, tt)) }) _ };
 
-    fn form(alloc: Global) -> Result<Shape> {
+    fn parts_shape(alloc: Global) -> Result<Shape> {
         BasketParts::shape(alloc, NAMES)
     }
 
@@ -29,7 +29,7 @@ impl Compound for Basket {
         Ok(Basket { foo, bars })
     }
 
-    fn written(&self, out: Out) -> WriteResult {
+    fn write_parts(&self, out: Out) -> WriteResult {
         out.fields(NAMES, (&self.foo, (&self.bars, ())))
     }
 }

@@ -23,7 +23,7 @@ const NAMES: &[&str] = &["foo", "bars", "limit", "offset", "remaining"];
 impl Compound for Params {
     ghost table = { made_of ⟦<ParamsParts as Parts>⟧.table NAMES.now (λ params. record { 0 = (params.foo, (params.bars, (params.limit, (params.offset, (params.remaining, tt))))) }) _ };
 
-    fn form(alloc: Global) -> Result<Shape> {
+    fn parts_shape(alloc: Global) -> Result<Shape> {
         ParamsParts::shape(alloc, NAMES)
     }
 
@@ -40,7 +40,7 @@ impl Compound for Params {
         })
     }
 
-    fn written(&self, out: Out) -> WriteResult {
+    fn write_parts(&self, out: Out) -> WriteResult {
         out.fields(NAMES, fields!(self; foo, bars, limit, offset, remaining))
     }
 }

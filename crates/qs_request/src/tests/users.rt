@@ -19,7 +19,7 @@ const USERS_NAMES: &[&str] = &["id"];
 impl Compound for Users {
     ghost table = { made_of ⟦<UsersParts as Parts>⟧.table USERS_NAMES.now (λ users. record { 0 = (users.id, tt) }) _ };
 
-    fn form(alloc: Global) -> Result<Shape> {
+    fn parts_shape(alloc: Global) -> Result<Shape> {
         UsersParts::shape(alloc, USERS_NAMES)
     }
 
@@ -28,7 +28,7 @@ impl Compound for Users {
         Ok(Users { id })
     }
 
-    fn written(&self, out: Out) -> WriteResult {
+    fn write_parts(&self, out: Out) -> WriteResult {
         out.fields(USERS_NAMES, (&self.id, ()))
     }
 }
@@ -46,7 +46,7 @@ const NOTE_NAMES: &[&str] = &["note"];
 impl Compound for Note {
     ghost table = { made_of ⟦<NoteParts as Parts>⟧.table NOTE_NAMES.now (λ note. record { 0 = (note.note, tt) }) _ };
 
-    fn form(alloc: Global) -> Result<Shape> {
+    fn parts_shape(alloc: Global) -> Result<Shape> {
         NoteParts::shape(alloc, NOTE_NAMES)
     }
 
@@ -55,7 +55,7 @@ impl Compound for Note {
         Ok(Note { note })
     }
 
-    fn written(&self, out: Out) -> WriteResult {
+    fn write_parts(&self, out: Out) -> WriteResult {
         out.fields(NOTE_NAMES, (&self.note, ()))
     }
 }

@@ -1,5 +1,7 @@
 //! Calls that read.
 
+#![tactic(auto, using(crate::proofs::Errors::of_tree))]
+
 ghost use Rattle.qs_spec.specs.Config.{default};
 ghost use Rattle.qs_serde.specs.Inputs.{ExplainsFrom, ReturnsFrom};
 
@@ -83,7 +85,6 @@ pub fn explain_str<'de, T: Deserialize<'de>>(
 /// ```
 /// let query: Query = explain_bytes(alloc, Config::new(), b"age=24&name=Alice")?;
 /// ```
-#[tactic(auto, using(crate::proofs::Errors::of_tree))]
 pub fn explain_bytes<'de, T: Deserialize<'de>>(
     alloc: Global,
     config: Config,
@@ -110,7 +111,6 @@ pub fn explain_bytes<'de, T: Deserialize<'de>>(
 /// ```
 /// let query: Query = from_bytes_with(alloc, config, b"age=24&name=Alice")?;
 /// ```
-#[tactic(auto, using(crate::proofs::Errors::of_tree))]
 pub fn from_bytes_with<'de, T: Deserialize<'de>>(
     alloc: Global,
     config: Config,

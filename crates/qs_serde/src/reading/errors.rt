@@ -1,5 +1,7 @@
 //! The errors of values that don't fit their types.
 
+#![tactic(auto, using(crate::proofs::Errors::step_errors))]
+
 ghost use Rattle.std.specs.Prelude.{Bool};
 ghost use Rattle.std.specs.Str.{is_utf8};
 ghost use Rattle.qs_tree.specs.tree.Views.{tree_of};
@@ -38,7 +40,6 @@ impl<'t, 'qs> TreeFormat<'t, 'qs> {
     /// Returns the error of a text that isn't borrowed from the input, or of a node that isn't read as a text.
     #[cold]
     #[inline(never)]
-    #[tactic(auto, using(crate::proofs::Errors::step_errors))]
     pub(crate) fn not_borrowed(&self, node: Node<'t, 'qs>) -> ReadError
         ensures { IsStepError (is_text (node_tree node.entry)) result }
     {
@@ -84,7 +85,6 @@ impl<'t, 'qs> TreeFormat<'t, 'qs> {
     }
 
     /// Returns the error with this message.
-    #[tactic(auto, using(crate::proofs::Errors::step_errors))]
     pub(crate) fn saying<T: Display + Drop>(&self, message: T) -> ReadError
         ensures { ReadIsCustom result }
     {
@@ -94,7 +94,6 @@ impl<'t, 'qs> TreeFormat<'t, 'qs> {
     /// Returns the error of a node that names no variant.
     #[cold]
     #[inline(never)]
-    #[tactic(auto, using(crate::proofs::Errors::step_errors))]
     pub(crate) fn no_variant(&self, node: Node<'t, 'qs>) -> ReadError
         ensures { IsStepError (is_text (node_tree node.entry)) result }
     {
@@ -112,7 +111,6 @@ impl<'t, 'qs> TreeFormat<'t, 'qs> {
     }
 
     // Returns the error of a text that names no variant.
-    #[tactic(auto, using(crate::proofs::Errors::step_errors))]
     fn unnamed_variant(&self, name: &[u8]) -> ReadError
         ensures { IsStepError (is_utf8 name.now) result }
     {
@@ -122,7 +120,6 @@ impl<'t, 'qs> TreeFormat<'t, 'qs> {
     /// Returns the error of a key of this map that isn't UTF-8.
     #[cold]
     #[inline(never)]
-    #[tactic(auto, using(crate::proofs::Errors::step_errors))]
     pub(crate) fn broken_key(&self, map: &ParsedValue<'_>) -> ReadError
         ensures { IsStepError (is_text (tree_of map.now)) result }
     {
@@ -159,7 +156,6 @@ impl<'t, 'qs> TreeFormat<'t, 'qs> {
     /// Returns the error of a node, with a hint if the node is a key that contains a bracket.
     #[cold]
     #[inline(never)]
-    #[tactic(auto, using(crate::proofs::Errors::step_errors))]
     pub(crate) fn hinted(&self, node: Node<'t, 'qs>, error: ReadError) -> ReadError
         ensures { (all_text : Bool) → IsStepError all_text error → IsStepError all_text result }
     {

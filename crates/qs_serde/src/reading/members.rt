@@ -1,5 +1,7 @@
 //! The items of lists and the entries of maps, one after another.
 
+#![tactic(auto, using(crate::proofs::Errors::step_errors))]
+
 ghost use Rattle.std.specs.Prelude.{◌≡◌, true, ℕ, ◌≢◌, [], Ok, None, Some, IfErr, IfOk, OnOk, IfSome, IfNone, MatchBool, MatchOption, slice_get};
 ghost use Rattle.serde.specs.Event.{map_ends};
 ghost use Rattle.qs_tree.specs.tree.Views.{tree_of};
@@ -106,7 +108,6 @@ impl<'t, 'qs> TreeFormat<'t, 'qs> {
 
     /// Goes to the next key of any list or map, and returns the index of the name that it matches. At the end it leaves the list or map.
     #[inline(never)]
-    #[tactic(auto, using(crate::proofs::Errors::step_errors))]
     pub(crate) fn go_to_key(&mut self, names: &[Name<'_>]) -> Result<Option<usize>>
         ensures step { IfOk result (λ o. MatchOption o (Reads self.old map_ends self.new) (λ at. Picks self.old true names.now at self.new)) }
         ensures errors { IfErr result (IsStepError (is_text (tree_of self.old.top.now))) }
@@ -129,7 +130,6 @@ impl<'t, 'qs> TreeFormat<'t, 'qs> {
     }
 
     /// Goes to the next item of a sequence that is read as a struct, and returns the index of its field. Further items are passed over.
-    #[tactic(auto, using(crate::proofs::Errors::step_errors))]
     fn go_to_place(&mut self, names: &[Name<'_>], frame: Frame) -> Result<Option<usize>>
         ensures errors { IfErr result (IsStepError (is_text (tree_of self.old.top.now))) }
         ensures step { kind_of self.old ≡ Some frame.kind → count_of self.old ≡ frame.next → IfOk result (λ o. MatchOption o (Leaves self.old self.new) (λ _. Comes self.old self.new)) }

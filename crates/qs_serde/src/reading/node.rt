@@ -4,7 +4,7 @@ ghost use Rattle.std.specs.Prelude.{◌≡◌, ◌<◌, drop, false, true, None,
 ghost use Rattle.qs_spec.specs.Leaf.Leaf.{Text};
 ghost use Rattle.qs_spec.specs.Node.{keys_are_text};
 ghost use Rattle.qs_spec.specs.Tree.Tree.{leaf};
-ghost use Rattle.qs_tree.specs.tree.Views.{marked_segment_of_key, tree_of};
+ghost use Rattle.qs_tree.specs.tree.Views.{parsed_segment_of_key, tree_of};
 ghost use Rattle.qs_data.specs.data.Views.{data_of};
 ghost use Rattle.qs_data.specs.shape.Views.{shape_of};
 ghost use Rattle.qs_data.specs.read.Items.{first_item, items_view};
@@ -17,7 +17,7 @@ ghost use Rattle.qs_serde.specs.Places.{child_at, item_or, last_part, value_or};
 
 use super::{ReadError, Result};
 use itoa::Buffer;
-use qs_data::{Data, Entries, Items, Reader, Shape};
+use qs_data::{Data, NodeEntries, NodeItems, Reader, Shape};
 use qs_tree::{Key, ParsedValue};
 use std::borrow::CowSlice;
 
@@ -103,25 +103,25 @@ pub(crate) fn item_at<'t, 'qs>(
 
 // Returns the items of a node that has a list of them.
 #[inline(always)]
-fn items_in<'t, 'qs>(value: &'t ParsedValue<'qs>) -> Items<'t, 'qs>
+fn items_in<'t, 'qs>(value: &'t ParsedValue<'qs>) -> NodeItems<'t, 'qs>
     ensures { items_view result ≡ listed (tree_of value.now) }
 {
     match value {
-        ParsedValue::Sequence(items) => Items::Sequence(items),
-        ParsedValue::Map(map) => Items::Places(map),
-        ParsedValue::String(_) => Items::One(value),
-        _ => Items::Empty,
+        ParsedValue::Sequence(items) => NodeItems::Sequence(items),
+        ParsedValue::Map(map) => NodeItems::Places(map),
+        ParsedValue::String(_) => NodeItems::One(value),
+        _ => NodeItems::Empty,
     }
 }
 
 /// Returns the entries of a node that has a map of them.
-pub(crate) fn entries_in<'t, 'qs>(value: &'t ParsedValue<'qs>) -> Entries<'t, 'qs>
+pub(crate) fn entries_in<'t, 'qs>(value: &'t ParsedValue<'qs>) -> NodeEntries<'t, 'qs>
     ensures { keys_are_text (entries_view result) ≡ false → is_text (tree_of value.now) ≡ false }
 {
     match value {
-        ParsedValue::Map(map) => Entries::Map(map),
-        ParsedValue::String(_) => Entries::Leaf(value),
-        _ => Entries::Empty,
+        ParsedValue::Map(map) => NodeEntries::Map(map),
+        ParsedValue::String(_) => NodeEntries::Leaf(value),
+        _ => NodeEntries::Empty,
     }
 }
 
@@ -183,7 +183,7 @@ fn value_or<'t, 'qs>(
     entry: Option<(&'t Key<'qs>, &'t ParsedValue<'qs>)>,
     other: &'t ParsedValue<'qs>,
 ) -> &'t ParsedValue<'qs>
-    ensures { tree_of result.now ≡ value_or (tree_of other.now) (option_map (λ e. (marked_segment_of_key e.0.now, tree_of e.1.now)) entry.entry) }
+    ensures { tree_of result.now ≡ value_or (tree_of other.now) (option_map (λ e. (parsed_segment_of_key e.0.now, tree_of e.1.now)) entry.entry) }
 {
     match entry {
         Some((_, value)) => value,

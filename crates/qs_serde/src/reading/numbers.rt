@@ -1,5 +1,7 @@
 //! Numbers.
 
+#![tactic(auto, using(crate::proofs::Errors::step_errors))]
+
 ghost use Rattle.std.specs.Prelude.{◌≡◌, Bool, IfErr, ◌⊎◌, ◌^◌, ◌≤◌, pos, negsuc, ◌<ℤ◌, IfOk, IfSome, OnOk, Some};
 ghost use Rattle.qs_spec.specs.Data as d;
 ghost use Rattle.qs_spec.specs.Shape as s;
@@ -49,7 +51,6 @@ fn past_signed(width: Width) -> i64 {
 
 impl<'t, 'qs> TreeFormat<'t, 'qs> {
     /// Reads a signed number.
-    #[tactic(auto, using(crate::proofs::Errors::step_errors))]
     pub(crate) fn signed(&mut self) -> Result<i64>
         ensures notes { Notes self.old self.new }
         ensures number { IsPlain self.old → IfOk result (λ v. Is self.old (s.Shape.signed 64) (d.signed v)) }
@@ -71,7 +72,6 @@ impl<'t, 'qs> TreeFormat<'t, 'qs> {
     }
 
     /// Reads an unsigned number.
-    #[tactic(auto, using(crate::proofs::Errors::step_errors))]
     pub(crate) fn unsigned(&mut self) -> Result<u64>
         ensures notes { Notes self.old self.new }
         ensures number { IsPlain self.old → IfOk result (λ v. Is self.old (s.Shape.unsigned 64) (d.unsigned v)) }
@@ -93,7 +93,6 @@ impl<'t, 'qs> TreeFormat<'t, 'qs> {
     }
 
     /// Reads an unsigned number that 64 bits don't hold.
-    #[tactic(auto, using(crate::proofs::Errors::step_errors))]
     pub(crate) fn wide_unsigned(&mut self) -> Result<u128>
         ensures takes { Takes self.old self.new }
         ensures number { IfOk result (λ n. 2 ^ 64 ≤ n) }
@@ -108,7 +107,6 @@ impl<'t, 'qs> TreeFormat<'t, 'qs> {
     }
 
     /// Reads a signed number that 64 bits don't hold.
-    #[tactic(auto, using(crate::proofs::Errors::step_errors))]
     pub(crate) fn wide_signed(&mut self) -> Result<i128>
         ensures takes { Takes self.old self.new }
         ensures number { IfOk result (λ z. (pos 9223372036854775807 <ℤ z) ⊎ (z <ℤ negsuc 9223372036854775807)) }
@@ -123,7 +121,6 @@ impl<'t, 'qs> TreeFormat<'t, 'qs> {
     }
 
     /// Parses a text as a number that the library has no shape for.
-    #[tactic(auto, using(crate::proofs::Errors::step_errors))]
     pub(crate) fn parsed<T: str::FromStr + Drop>(&mut self) -> Result<T>
     where
         T::Err: Drop,

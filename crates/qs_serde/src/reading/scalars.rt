@@ -1,5 +1,7 @@
 //! Values of one text.
 
+#![tactic(auto, using(crate::proofs::Errors::step_errors))]
+
 ghost use Rattle.std.specs.Prelude.{◌≡◌, Bool, true, map, slice_range, IfErr, IfOk, IfSome, OnOk, Some, string_bytes};
 ghost use Rattle.std.specs.Str.{is_utf8};
 ghost use Rattle.qs_spec.specs.Data as d;
@@ -28,7 +30,6 @@ use std::str;
 impl<'t, 'qs> TreeFormat<'t, 'qs> {
     /// Reads a node by a shape. If the node is a key that contains a bracket, its error has a hint.
     #[inline(never)]
-    #[tactic(auto, using(crate::proofs::Errors::step_errors))]
     pub(crate) fn read_key(&self, node: Node<'t, 'qs>, shape: &Shape) -> Result<Data>
         ensures errors { IfErr result (IsStepError (is_text (node_tree node.entry))) }
         ensures data { IfOk result (λ v. reads self.now.reader.reject_duplicates (shape_of shape.now) (node_tree node.entry) ≡ Some (data_of v)) }
@@ -67,7 +68,6 @@ impl<'t, 'qs> TreeFormat<'t, 'qs> {
     }
 
     /// Returns the range of a text in the input. Any occurrence will do, since all have the same bytes.
-    #[tactic(auto, using(crate::proofs::Errors::step_errors))]
     pub(crate) fn place(&self, text: &[u8], input: &[u8]) -> Result<(usize, usize)>
         ensures errors { IfErr result (IsStepError true) }
         ensures place { IfOk result (λ r. slice_range input.now r.0 r.1 ≡ text.now) }

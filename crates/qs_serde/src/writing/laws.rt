@@ -39,7 +39,7 @@ pub fn worked_texts()
 /// events_of_data(); // its clause is the law
 /// ```
 pub fn events_of_data()
-    ensures { (config : Config) (x : Data) → AreSaid false x → (entries config x).error ≡ None → text_of_sent config (sends x []) ≡ Some (written config.form false (entries config x).entries) }
+    ensures { (config : Config) (x : Data) → AreSaid false x → (entries config x).error ≡ None → text_of_sent config (sends x []) ≡ Some (written config.is_form false (entries config x).entries) }
 {}
 
 /// Events without floats have exactly one text, so the promise of [`to_string`](crate::to_string) is an equation. It does nothing at run

@@ -1,8 +1,8 @@
 //! The events that serde sends.
 
 use super::halt::Halt;
-use super::kept::{float, keep, key, printed, variant};
 use super::log::Note;
+use super::logging::{float, keep, key, printed, variant};
 use super::text::{Settings, TextSerializer};
 use itoa::Buffer;
 use qs_data::{Scalar, Stop};

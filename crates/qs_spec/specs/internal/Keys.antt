@@ -34,12 +34,12 @@ IsInRange (Str bytes) = ⊤
 -- a key is less than the keys of the entries
 abbrev pub AreAbove : Segment → Entries → Type 0
 AreAbove k no_entries = ⊤
-AreAbove k (entry j mark t es) = (compare_segments k j ≡ Less) × AreAbove k es
+AreAbove k (entry j escaped t es) = (compare_segments k j ≡ Less) × AreAbove k es
 
 -- each key is in range, and less than the keys after it
 abbrev pub AreAscending : Entries → Type 0
 AreAscending no_entries = ⊤
-AreAscending (entry k mark t es) = IsInRange k × AreAbove k es × AreAscending es
+AreAscending (entry k escaped t es) = IsInRange k × AreAbove k es × AreAscending es
 
 -- the keys of every map of a tree ascend
 abbrev mutual
@@ -51,4 +51,4 @@ abbrev mutual
 
   pub HoldAscending : Entries → Type 0
   HoldAscending no_entries = ⊤
-  HoldAscending (entry k mark t es) = IsAscending t × HoldAscending es
+  HoldAscending (entry k escaped t es) = IsAscending t × HoldAscending es

@@ -21,7 +21,7 @@ Reader = Tree → Option Data
 abbrev pub read_scalar : Bool → Option Data → (List ℕ → Option Data) → Reader
 read_scalar reject_duplicates empty get (leaf NoValue) = empty
 read_scalar reject_duplicates empty get (leaf Null) = empty
-read_scalar reject_duplicates empty get (leaf (Text bytes mark)) = get bytes
+read_scalar reject_duplicates empty get (leaf (Text bytes escaped)) = get bytes
 read_scalar reject_duplicates empty get (sequence xs) = option_and_then get (last_item reject_duplicates xs)
 read_scalar reject_duplicates empty get _ = None
 
@@ -32,7 +32,7 @@ read_unit (leaf Null) = Some Data.unit
 read_unit _ = None
 
 abbrev pub read_character : Reader
-read_character (leaf (Text bytes mark)) = character_data bytes
+read_character (leaf (Text bytes escaped)) = character_data bytes
 read_character _ = None
 
 abbrev pub read_ignored : Reader
@@ -93,13 +93,13 @@ struct_members allowed names places _ = None
 -- the pairs of a map, in the order of its keys
 abbrev pub read_pairs : KeyShape → Reader → Entries → Option (List (Data × Data))
 read_pairs k r no_entries = Some []
-read_pairs k r (entry key mark t es) = option_and_then (λ a. option_and_then (λ d. with_front (a, d) (read_pairs k r es)) (r t)) (key_data k (segment_text key))
+read_pairs k r (entry key escaped t es) = option_and_then (λ a. option_and_then (λ d. with_front (a, d) (read_pairs k r es)) (r t)) (key_data k (segment_text key))
 
 -- a map
 unfoldable pub read_map : KeyShape → Reader → Tree → Option (List (Data × Data))
 read_map k r (leaf NoValue) = Some []
 read_map k r (leaf Null) = Some []
-read_map k r (leaf (Text bytes mark)) = read_pairs k r (under_empty (leaf (Text bytes mark)))
+read_map k r (leaf (Text bytes escaped)) = read_pairs k r (under_empty (leaf (Text bytes escaped)))
 read_map k r (mapping es) = read_pairs k r es
 read_map k r _ = None
 
@@ -115,8 +115,8 @@ unit_variant_data (one_variant n k vs) name = cond (bytes_eq n name) (cond (is_u
 
 -- the smallest key of a map names the variant, and a text names a unit variant
 unfoldable pub read_enum : Variants → (List ℕ → Reader) → Reader
-read_enum vs by_name (leaf (Text bytes mark)) = unit_variant_data vs bytes
-read_enum vs by_name (mapping (entry k mark t es)) = by_name (segment_text k) t
+read_enum vs by_name (leaf (Text bytes escaped)) = unit_variant_data vs bytes
+read_enum vs by_name (mapping (entry k escaped t es)) = by_name (segment_text k) t
 read_enum vs by_name _ = None
 
 -- anything: sequences and maps with only integer keys as sequences, other maps with their keys as texts
@@ -124,7 +124,7 @@ unfoldable mutual
   pub any_data : Reader
   any_data (leaf NoValue) = Some Data.unit
   any_data (leaf Null) = Some (Data.text [])
-  any_data (leaf (Text bytes mark)) = text_data bytes
+  any_data (leaf (Text bytes escaped)) = text_data bytes
   any_data (sequence xs) = option_map Data.sequence (any_items xs)
   any_data (mapping es) = cond (are_ints es) (option_map Data.sequence (any_places 0 es)) (option_map Data.mapping (any_pairs es))
   any_data uninitialized = None
@@ -135,11 +135,11 @@ unfoldable mutual
 
   pub any_places : ℕ → Entries → Option Values
   any_places i no_entries = Some no_values
-  any_places i (entry k mark t es) = cond (is_place i k) (option_and_then (λ d. option_map (one_value d) (any_places (i + 1) es)) (any_data t)) None
+  any_places i (entry k escaped t es) = cond (is_place i k) (option_and_then (λ d. option_map (one_value d) (any_places (i + 1) es)) (any_data t)) None
 
   pub any_pairs : Entries → Option Pairs
   any_pairs no_entries = Some no_pairs
-  any_pairs (entry k mark t es) = option_and_then (λ a. option_and_then (λ d. option_map (one_pair a d) (any_pairs es)) (any_data t)) (text_data (segment_text k))
+  any_pairs (entry k escaped t es) = option_and_then (λ a. option_and_then (λ d. option_map (one_pair a d) (any_pairs es)) (any_data t)) (text_data (segment_text k))
 
 -- what the shape reads from the node; under `reject_duplicates` several values for a scalar are rejected
 unfoldable mutual

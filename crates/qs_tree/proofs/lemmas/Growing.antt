@@ -15,37 +15,37 @@ module _ (depth : ℕ) (ts : List Token) (t : Tree) where
       by (Some ps) = ap (option_and_then (add_all ps)) a
 
 -- all pairs of an input make its tree, or none
-module _ (form : Bool) (depth b : ℕ) (bytes : List ℕ) where
-  pub grown_tree : (t : Tree) → grown depth (tokens form (b ∷ bytes)) uninitialized ≡ Some t → IsTree form depth (b ∷ bytes) t
-  grown_tree t e = by (parsed_pairs depth (tokens form (b ∷ bytes))) refl e
+module _ (is_form : Bool) (depth b : ℕ) (bytes : List ℕ) where
+  pub grown_tree : (t : Tree) → grown depth (tokens is_form (b ∷ bytes)) uninitialized ≡ Some t → IsTree is_form depth (b ∷ bytes) t
+  grown_tree t e = by (parsed_pairs depth (tokens is_form (b ∷ bytes))) refl e
     where
-      by : (o : Option (List Pair)) → parsed_pairs depth (tokens form (b ∷ bytes)) ≡ o → option_and_then (λ ps. add_all ps uninitialized) o ≡ Some t → IsTree form depth (b ∷ bytes) t
+      by : (o : Option (List Pair)) → parsed_pairs depth (tokens is_form (b ∷ bytes)) ≡ o → option_and_then (λ ps. add_all ps uninitialized) o ≡ Some t → IsTree is_form depth (b ∷ bytes) t
       by None d e = absurd (none-some t e)
-      by (Some ps) d e = (in_place form depth b bytes ps t (are_pairs depth (tokens form (b ∷ bytes)) ps d)).0 e
+      by (Some ps) d e = (in_place is_form depth b bytes ps t (are_pairs depth (tokens is_form (b ∷ bytes)) ps d)).0 e
 
-  pub grown_without_tree : grown depth (tokens form (b ∷ bytes)) uninitialized ≡ None → HasNoTree form depth (b ∷ bytes)
+  pub grown_without_tree : grown depth (tokens is_form (b ∷ bytes)) uninitialized ≡ None → HasNoTree is_form depth (b ∷ bytes)
   grown_without_tree e t h =
       let pairs = found_pairs h.1.grammar in
-      let whole = (in_place form depth b bytes h.0 t h.1.grammar).1 h in
+      let whole = (in_place is_form depth b bytes h.0 t h.1.grammar).1 h in
       none-some t (sym e ∙ ap (option_and_then (λ ps. add_all ps uninitialized)) pairs ∙ whole)
 
 -- a result for the tokens of an input is one for the input
-module _ (form : Bool) (depth : ℕ) (bytes : List ℕ) (some : (length bytes == 0) ≡ false) (limit : ℕ) (ts : List Token) (d : limit ≡ depth) (e : ts ≡ tokens form bytes) (bound : ℕ) where
-  about : (r : Result ParsedValue Error) → Returns tree_of (grown limit ts uninitialized) bound r → Returns tree_of (grown depth (tokens form bytes) uninitialized) bound r
-  about r h = subst (λ n. Returns tree_of (grown n (tokens form bytes) uninitialized) bound r) d (subst (λ l. Returns tree_of (grown limit l uninitialized) bound r) e h)
+module _ (is_form : Bool) (depth : ℕ) (bytes : List ℕ) (some : (length bytes == 0) ≡ false) (limit : ℕ) (ts : List Token) (d : limit ≡ depth) (e : ts ≡ tokens is_form bytes) (bound : ℕ) where
+  about : (r : Result ParsedValue Error) → Returns tree_of (grown limit ts uninitialized) bound r → Returns tree_of (grown depth (tokens is_form bytes) uninitialized) bound r
+  about r h = subst (λ n. Returns tree_of (grown n (tokens is_form bytes) uninitialized) bound r) d (subst (λ l. Returns tree_of (grown limit l uninitialized) bound r) e h)
 
-  pub result_tree : (r : Result ParsedValue Error) → Returns tree_of (grown limit ts uninitialized) bound r → IfOk r (λ v. IsTree form depth bytes (tree_of v))
+  pub result_tree : (r : Result ParsedValue Error) → Returns tree_of (grown limit ts uninitialized) bound r → IfOk r (λ v. IsTree is_form depth bytes (tree_of v))
   result_tree (Ok v) h = by bytes some (about (Ok v) h)
     where
-      by : (bytes : List ℕ) → (length bytes == 0) ≡ false → grown depth (tokens form bytes) uninitialized ≡ Some (tree_of v) → IsTree form depth bytes (tree_of v)
+      by : (bytes : List ℕ) → (length bytes == 0) ≡ false → grown depth (tokens is_form bytes) uninitialized ≡ Some (tree_of v) → IsTree is_form depth bytes (tree_of v)
       by [] n a = cc
-      by (b ∷ bytes) n a = grown_tree form depth b bytes (tree_of v) a
+      by (b ∷ bytes) n a = grown_tree is_form depth b bytes (tree_of v) a
   result_tree (Err f) h = tt
 
-  pub result_rejected : (r : Result ParsedValue Error) → Returns tree_of (grown limit ts uninitialized) bound r → IsParse r → HasNoTree form depth bytes
+  pub result_rejected : (r : Result ParsedValue Error) → Returns tree_of (grown limit ts uninitialized) bound r → IsParse r → HasNoTree is_form depth bytes
   result_rejected (Err (Parse message at)) h p = by bytes some (about (Err (Parse message at)) h).0
     where
-      by : (bytes : List ℕ) → (length bytes == 0) ≡ false → grown depth (tokens form bytes) uninitialized ≡ None → HasNoTree form depth bytes
+      by : (bytes : List ℕ) → (length bytes == 0) ≡ false → grown depth (tokens is_form bytes) uninitialized ≡ None → HasNoTree is_form depth bytes
       by [] n a = cc
-      by (b ∷ bytes) n a = grown_without_tree form depth b bytes a
+      by (b ∷ bytes) n a = grown_without_tree is_form depth b bytes a
   result_rejected r h p = absurd p

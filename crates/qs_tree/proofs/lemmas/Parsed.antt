@@ -1,11 +1,11 @@
 -- From the tree of a result to all that `Parses` promises of it.
-use Rattle.qs_tree.proofs.Common.{Global, ◌≡◌, ◌≢◌, ℕ, ◌+◌, ◌≤◌, ◌⊎◌, inl, inr, Bool, List, [], ◌∷◌, length, refl, sym, ap, ◌∙◌, IfOk, Option, None, Result, Ok, Err, ◌==◌, true, false, eqb-true, arith, rules, IfOk-weaker, Tree, IsTree, HasNoTree, Pair, ArePairs, tokens, AreReordered, AreEquivalent, marks, one_tree, Error, Parse, OutOfMemory, ParsedValue, NoValue, the_lemmas, tree_of, IsParse, IfParse, IsOutOfMemory, OnlyOutOfMemory, OnlyParseOrOutOfMemory, owns, Returns, HoldsOf, IsOk, Token}
+use Rattle.qs_tree.proofs.Common.{Global, ◌≡◌, ◌≢◌, ℕ, ◌+◌, ◌≤◌, ◌⊎◌, inl, inr, Bool, List, [], ◌∷◌, length, refl, sym, ap, ◌∙◌, IfOk, Option, None, Result, Ok, Err, ◌==◌, true, false, eqb-true, arith, rules, IfOk-weaker, Tree, IsTree, HasNoTree, Pair, ArePairs, tokens, AreReordered, AreEquivalent, escapes, one_tree, Error, Parse, OutOfMemory, ParsedValue, NoValue, the_lemmas, tree_of, IsParse, IfParse, IsOutOfMemory, OnlyOutOfMemory, OnlyParseOrOutOfMemory, owns, Returns, HoldsOf, IsOk, Token}
 use Rattle.std.specs.declared.string.String.{String}
 use Rattle.qs_spec.specs.Holds.{IsSound, leaf_count, nesting}
 use Rattle.qs_spec.specs.Input.{HasPairs, IsReordered}
 use Rattle.qs_spec.proofs.Sound as sound_trees
 use Rattle.qs_spec.proofs.Equivalent as trees
-use Rattle.qs_tree.proofs.lemmas.tree.Owned.{owns_marked}
+use Rattle.qs_tree.proofs.lemmas.tree.Owned.{owns_escaped}
 use Rattle.qs_tree.specs.Parsing.{Parses, AllocatesNothing}
 use Rattle.qs_tree.specs.internal.Parsing.{grown, Reports}
 use Rattle.qs_tree.specs.declared.parsing.scan_error.ScanError.{ScanError}
@@ -14,32 +14,32 @@ use Rattle.qs_spec.specs.Tree.Tree.{uninitialized}
 use Rattle.qs_tree.proofs.lemmas.Growing.{result_tree, result_rejected}
 
 -- the pairs of an input that has a tree
-pairs_counted : (form : Bool) (depth : ℕ) (bytes : List ℕ) (t : Tree) → IsTree form depth bytes t → bytes ≢ [] → HasPairs form depth bytes (leaf_count t)
-pairs_counted form depth [] t h some = absurd (some refl)
-pairs_counted form depth (b ∷ bytes) t h some = (h.0, h.1.grammar, sym (trees.leaves form depth b bytes h.0 t h.1.grammar h))
+pairs_counted : (is_form : Bool) (depth : ℕ) (bytes : List ℕ) (t : Tree) → IsTree is_form depth bytes t → bytes ≢ [] → HasPairs is_form depth bytes (leaf_count t)
+pairs_counted is_form depth [] t h some = absurd (some refl)
+pairs_counted is_form depth (b ∷ bytes) t h some = (h.0, h.1.grammar, sym (trees.leaves is_form depth b bytes h.0 t h.1.grammar h))
 
-module _ (form : Bool) (depth : ℕ) (bytes : List ℕ) (r : Result ParsedValue Error) (tree : IfOk r (λ v. IsTree form depth bytes (tree_of v))) where
-  pub borrowed : (t : Tree) → IsTree form depth bytes t → IfOk r (λ v. owns v ≡ marks t)
-  borrowed t h = IfOk-weaker r _ (λ v. owns v ≡ marks t) (λ v g. owns_marked v ∙ ap marks (one_tree form depth bytes (tree_of v) t g h)) tree
+module _ (is_form : Bool) (depth : ℕ) (bytes : List ℕ) (r : Result ParsedValue Error) (tree : IfOk r (λ v. IsTree is_form depth bytes (tree_of v))) where
+  pub borrowed : (t : Tree) → IsTree is_form depth bytes t → IfOk r (λ v. owns v ≡ escapes t)
+  borrowed t h = IfOk-weaker r _ (λ v. owns v ≡ escapes t) (λ v g. owns_escaped v ∙ ap escapes (one_tree is_form depth bytes (tree_of v) t g h)) tree
 
-  pub leaves : bytes ≢ [] → IfOk r (λ v. HasPairs form depth bytes (leaf_count (tree_of v)))
-  leaves some = IfOk-weaker r _ (λ v. HasPairs form depth bytes (leaf_count (tree_of v))) (λ v g. pairs_counted form depth bytes (tree_of v) g some) tree
+  pub leaves : bytes ≢ [] → IfOk r (λ v. HasPairs is_form depth bytes (leaf_count (tree_of v)))
+  leaves some = IfOk-weaker r _ (λ v. HasPairs is_form depth bytes (leaf_count (tree_of v))) (λ v g. pairs_counted is_form depth bytes (tree_of v) g some) tree
 
   pub nested : IfOk r (λ v. nesting (tree_of v) ≤ depth + 2)
-  nested = IfOk-weaker r _ (λ v. nesting (tree_of v) ≤ depth + 2) (λ v g. trees.nests form depth bytes (tree_of v) g) tree
+  nested = IfOk-weaker r _ (λ v. nesting (tree_of v) ≤ depth + 2) (λ v g. trees.nests is_form depth bytes (tree_of v) g) tree
 
   pub sound : IfOk r (λ v. IsSound (tree_of v))
-  sound = IfOk-weaker r _ (λ v. IsSound (tree_of v)) (λ v g. sound_trees.sound form depth bytes (tree_of v) g) tree
+  sound = IfOk-weaker r _ (λ v. IsSound (tree_of v)) (λ v g. sound_trees.sound is_form depth bytes (tree_of v) g) tree
 
 -- an order of an input's pairs
-pub equivalent : (form : Bool) (depth : ℕ) (bytes other : List ℕ) → IsReordered form depth bytes other → AreEquivalent form depth bytes other
-equivalent form depth bytes other h = by h.pairs h.some h.of_first h.order
+pub equivalent : (is_form : Bool) (depth : ℕ) (bytes other : List ℕ) → IsReordered is_form depth bytes other → AreEquivalent is_form depth bytes other
+equivalent is_form depth bytes other h = by h.pairs h.some h.of_first h.order
   where
-    by : (pairs : List Pair) → pairs ≢ [] → ArePairs depth (tokens form bytes) pairs → AreReordered pairs h.others → AreEquivalent form depth bytes other
+    by : (pairs : List Pair) → pairs ≢ [] → ArePairs depth (tokens is_form bytes) pairs → AreReordered pairs h.others → AreEquivalent is_form depth bytes other
     by [] some first order = absurd (some refl)
-    by (p ∷ ps) some first order = trees.equivalent_by_places form depth bytes other p ps h.others first h.of_second order
+    by (p ∷ ps) some first order = trees.equivalent_by_places is_form depth bytes other p ps h.others first h.of_second order
 
-module _ (form : Bool) (depth : ℕ) (bytes : List ℕ) (expected : Option Tree) (bound : ℕ) where
+module _ (is_form : Bool) (depth : ℕ) (bytes : List ℕ) (expected : Option Tree) (bound : ℕ) where
   -- what such a result can be: a value, `Parse` or `OutOfMemory`
   only : (P : Result ParsedValue Error → Type 0) → ((v : ParsedValue) → P (Ok v)) → ((message : String Global) (at : ℕ) → at ≤ bound → P (Err (Parse message at))) → P (Err OutOfMemory)
       → (r : Result ParsedValue Error) → Returns tree_of expected bound r → P r
@@ -48,13 +48,13 @@ module _ (form : Bool) (depth : ℕ) (bytes : List ℕ) (expected : Option Tree)
   only P value parse memory (Err OutOfMemory) outcome = memory
   only P value parse memory (Err error) outcome = absurd outcome
 
-  pub accepted : (r : Result ParsedValue Error) → Returns tree_of expected bound r → (IsParse r → HasNoTree form depth bytes) → (t : Tree) → IsTree form depth bytes t → OnlyOutOfMemory r
+  pub accepted : (r : Result ParsedValue Error) → Returns tree_of expected bound r → (IsParse r → HasNoTree is_form depth bytes) → (t : Tree) → IsTree is_form depth bytes t → OnlyOutOfMemory r
   accepted r outcome no_tree t h =
-      only (λ r. (IsParse r → HasNoTree form depth bytes) → OnlyOutOfMemory r) (λ v none. tt) (λ message at le none. absurd (none tt t h)) (λ none. tt) r outcome no_tree
+      only (λ r. (IsParse r → HasNoTree is_form depth bytes) → OnlyOutOfMemory r) (λ v none. tt) (λ message at le none. absurd (none tt t h)) (λ none. tt) r outcome no_tree
 
-  pub rejected : (r : Result ParsedValue Error) → Returns tree_of expected bound r → IfOk r (λ v. IsTree form depth bytes (tree_of v)) → HasNoTree form depth bytes → IsParse r ⊎ IsOutOfMemory r
+  pub rejected : (r : Result ParsedValue Error) → Returns tree_of expected bound r → IfOk r (λ v. IsTree is_form depth bytes (tree_of v)) → HasNoTree is_form depth bytes → IsParse r ⊎ IsOutOfMemory r
   rejected r outcome tree none =
-      only (λ r. IfOk r (λ v. IsTree form depth bytes (tree_of v)) → IsParse r ⊎ IsOutOfMemory r) (λ v h. absurd (none (tree_of v) h)) (λ message at le h. inl tt) (λ h. inr tt) r outcome tree
+      only (λ r. IfOk r (λ v. IsTree is_form depth bytes (tree_of v)) → IsParse r ⊎ IsOutOfMemory r) (λ v h. absurd (none (tree_of v) h)) (λ message at le h. inl tt) (λ h. inr tt) r outcome tree
 
   pub position : (r : Result ParsedValue Error) → Returns tree_of expected bound r → IfParse r (λ at. at ≤ bound)
   position = only (λ r. IfParse r (λ at. at ≤ bound)) (λ v. tt) (λ message at le. le) tt
@@ -62,42 +62,42 @@ module _ (form : Bool) (depth : ℕ) (bytes : List ℕ) (expected : Option Tree)
   pub errors : (r : Result ParsedValue Error) → Returns tree_of expected bound r → OnlyParseOrOutOfMemory r
   errors = only OnlyParseOrOutOfMemory (λ v. tt) (λ message at le. tt) tt
 
-module _ (form : Bool) (depth : ℕ) (bytes : List ℕ) where
-  pub reordered : (r : Result ParsedValue Error) → IfOk r (λ v. IsTree form depth bytes (tree_of v)) → (IsParse r → HasNoTree form depth bytes)
-      → (other : List ℕ) → IsReordered form depth bytes other → HoldsOf form depth other r
-  reordered (Ok v) tree no_tree other h = (equivalent form depth bytes other h).there (tree_of v) tree
-  reordered (Err (Parse message at)) tree no_tree other h = λ u g. let was = (equivalent form depth bytes other h).back u g in no_tree tt was.0 was.1
+module _ (is_form : Bool) (depth : ℕ) (bytes : List ℕ) where
+  pub reordered : (r : Result ParsedValue Error) → IfOk r (λ v. IsTree is_form depth bytes (tree_of v)) → (IsParse r → HasNoTree is_form depth bytes)
+      → (other : List ℕ) → IsReordered is_form depth bytes other → HoldsOf is_form depth other r
+  reordered (Ok v) tree no_tree other h = (equivalent is_form depth bytes other h).there (tree_of v) tree
+  reordered (Err (Parse message at)) tree no_tree other h = λ u g. let was = (equivalent is_form depth bytes other h).back u g in no_tree tt was.0 was.1
   reordered (Err error) tree no_tree other h = tt
 
 -- the empty input
-pub empty_tree : (form : Bool) (depth : ℕ) (bytes : List ℕ) → (length bytes == 0) ≡ true → IsTree form depth bytes (tree_of NoValue)
-empty_tree form depth [] e = search (rules, the_lemmas)
-empty_tree form depth (b ∷ bytes) e = absurd (omega (arith, eqb-true (length (b ∷ bytes)) 0 e))
+pub empty_tree : (is_form : Bool) (depth : ℕ) (bytes : List ℕ) → (length bytes == 0) ≡ true → IsTree is_form depth bytes (tree_of NoValue)
+empty_tree is_form depth [] e = search (rules, the_lemmas)
+empty_tree is_form depth (b ∷ bytes) e = absurd (omega (arith, eqb-true (length (b ∷ bytes)) 0 e))
 
-pub empty_is_small : (bytes : List ℕ) → (length bytes == 0) ≡ true → AllocatesNothing bytes
-empty_is_small [] e = refl
-empty_is_small (b ∷ bytes) e = absurd (omega (arith, eqb-true (length (b ∷ bytes)) 0 e))
+pub empty_is_unallocated : (bytes : List ℕ) → (length bytes == 0) ≡ true → AllocatesNothing bytes
+empty_is_unallocated [] e = refl
+empty_is_unallocated (b ∷ bytes) e = absurd (omega (arith, eqb-true (length (b ∷ bytes)) 0 e))
 
 -- all that is promised of a result, from what it is in terms of the tokens of the input
-module _ (form : Bool) (depth : ℕ) (bytes : List ℕ) (some : (length bytes == 0) ≡ false) (limit : ℕ) (ts : List Token) (d : limit ≡ depth) (e : ts ≡ tokens form bytes) where
-  pub parses : (r : Result ParsedValue Error) → Returns tree_of (grown limit ts uninitialized) (length bytes + 1) r → (AllocatesNothing bytes → IsOk r) → Parses form depth bytes r
+module _ (is_form : Bool) (depth : ℕ) (bytes : List ℕ) (some : (length bytes == 0) ≡ false) (limit : ℕ) (ts : List Token) (d : limit ≡ depth) (e : ts ≡ tokens is_form bytes) where
+  pub parses : (r : Result ParsedValue Error) → Returns tree_of (grown limit ts uninitialized) (length bytes + 1) r → (AllocatesNothing bytes → IsOk r) → Parses is_form depth bytes r
   parses r returned no_allocation =
-      let tree = result_tree form depth bytes some limit ts d e (length bytes + 1) r returned in
-      let no_tree = result_rejected form depth bytes some limit ts d e (length bytes + 1) r returned in
+      let tree = result_tree is_form depth bytes some limit ts d e (length bytes + 1) r returned in
+      let no_tree = result_rejected is_form depth bytes some limit ts d e (length bytes + 1) r returned in
       record {
         tree = tree;
         no_tree = no_tree;
-        accepted = accepted form depth bytes _ _ r returned no_tree;
-        rejected = rejected form depth bytes _ _ r returned tree;
-        position = position form depth bytes _ _ r returned;
-        errors = errors form depth bytes _ _ r returned;
+        accepted = accepted is_form depth bytes _ _ r returned no_tree;
+        rejected = rejected is_form depth bytes _ _ r returned tree;
+        position = position is_form depth bytes _ _ r returned;
+        errors = errors is_form depth bytes _ _ r returned;
         no_allocation = no_allocation;
-        borrowed = borrowed form depth bytes r tree;
-        leaves = leaves form depth bytes r tree;
-        nesting = nested form depth bytes r tree;
-        sound = sound form depth bytes r tree;
-        equivalent = equivalent form depth bytes;
-        reordered = reordered form depth bytes r tree no_tree;
+        borrowed = borrowed is_form depth bytes r tree;
+        leaves = leaves is_form depth bytes r tree;
+        nesting = nested is_form depth bytes r tree;
+        sound = sound is_form depth bytes r tree;
+        equivalent = equivalent is_form depth bytes;
+        reordered = reordered is_form depth bytes r tree no_tree;
       }
 
 -- the public error of a scan error

@@ -1,5 +1,5 @@
 -- A value of the code, level by level, beside the tree that it is.
-use Rattle.qs_tree.proofs.Common.{◌≡◌, List, [], ◌∷◌, ◌++◌, Vec, Global, ℕ, true, false, None, refl, ap, ◌∙◌, rules, CowSlice, Borrowed, Owned, Leaf, Tree, leaf, sequence, mapping, uninitialized, add_flat, add_here, push_item, ParsedValue, Map, Sequence, Null, NoValue, Uninitialized, the_lemmas, ParsedMap, MapBuilder, built_tree, built_entries, fresh, second, entries_below, unsorted_entries, tree_of, entries_of_map, items_of}
+use Rattle.qs_tree.proofs.Common.{◌≡◌, List, [], ◌∷◌, ◌++◌, Vec, Global, ℕ, true, false, None, refl, ap, ◌∙◌, rules, CowSlice, Borrowed, Owned, Leaf, Tree, leaf, sequence, mapping, uninitialized, add_to_leaves, add_here, push_item, ParsedValue, Map, Sequence, Null, NoValue, Uninitialized, the_lemmas, ParsedMap, MapBuilder, built_tree, built_entries, fresh, second, entries_below, unsorted_entries, tree_of, entries_of_map, items_of}
 use Rattle.qs_spec.specs.Leaf.Leaf.{Text, Null as leaf_null, NoValue as leaf_none}
 use Rattle.qs_spec.specs.Tree.Items.{item}
 use Rattle.qs_tree.specs.declared.tree.value.ParsedValue.{String}
@@ -20,19 +20,19 @@ pub items_of-push : (vs : List ParsedValue) (v : ParsedValue) → items_of (vs +
 items_of-push [] v = refl
 items_of-push (x ∷ vs) v = ap (item (tree_of x)) (items_of-push vs v)
 
--- a direct leaf is added to a leaf
-pub second-String : (s : CowSlice ℕ Global) (l : Leaf) → add_flat false l (tree_of (String s)) ≡ second (tree_of (String s)) l
+-- an assigned leaf is added to a leaf
+pub second-String : (s : CowSlice ℕ Global) (l : Leaf) → add_to_leaves false l (tree_of (String s)) ≡ second (tree_of (String s)) l
 second-String (Borrowed r) l = let is : tree_of (String (Borrowed r)) ≡ leaf (Text r.now false) = search (rules, the_lemmas) in rw is
 second-String (Owned v) l = let is : tree_of (String (Owned v)) ≡ leaf (Text v.items true) = search (rules, the_lemmas) in rw is
 
-pub second-Null : (l : Leaf) → add_flat false l (tree_of Null) ≡ second (tree_of Null) l
+pub second-Null : (l : Leaf) → add_to_leaves false l (tree_of Null) ≡ second (tree_of Null) l
 second-Null l = let is : tree_of Null ≡ leaf leaf_null = search (rules, the_lemmas) in rw is
 
-pub second-NoValue : (l : Leaf) → add_flat false l (tree_of NoValue) ≡ second (tree_of NoValue) l
+pub second-NoValue : (l : Leaf) → add_to_leaves false l (tree_of NoValue) ≡ second (tree_of NoValue) l
 second-NoValue l = let is : tree_of NoValue ≡ leaf leaf_none = search (rules, the_lemmas) in rw is
 
 -- at a leaf as at any other node that is no map
-pub here-String : (s : CowSlice ℕ Global) (l : Leaf) → add_here false l (tree_of (String s)) ≡ add_flat false l (tree_of (String s))
+pub here-String : (s : CowSlice ℕ Global) (l : Leaf) → add_here false l (tree_of (String s)) ≡ add_to_leaves false l (tree_of (String s))
 here-String (Borrowed r) l = let is : tree_of (String (Borrowed r)) ≡ leaf (Text r.now false) = search (rules, the_lemmas) in rw is
 here-String (Owned v) l = let is : tree_of (String (Owned v)) ≡ leaf (Text v.items true) = search (rules, the_lemmas) in rw is
 
@@ -50,7 +50,7 @@ below-NoValue = let is : tree_of NoValue ≡ leaf leaf_none = search (rules, the
 pub below-Sequence : (v : Vec ParsedValue Global) → entries_below (tree_of (Sequence v)) ≡ None
 below-Sequence v = rw (tree_of-Sequence v)
 
-pub here-push : (l : Leaf) (t : Tree) → add_here true l t ≡ add_flat true l t
+pub here-push : (l : Leaf) (t : Tree) → add_here true l t ≡ add_to_leaves true l t
 here-push l (leaf o) = refl
 here-push l t = refl
 

@@ -3,4 +3,4 @@ pub mod Runs
 pub mod Indexes
 pub mod AfterKeys
 pub mod Items
-pub mod SmallItems
+pub mod UnallocatedItems

@@ -14,9 +14,9 @@ abbrev pub grown : ℕ → List Token → Tree → Option Tree
 grown depth ts t = option_and_then (λ ps. add_all ps t) (parsed_pairs depth ts)
 
 -- the result is the expected tree, or an error if none is expected; or an allocation failed
-abbrev pub Finds : {A : Type 0} → (A → Tree) → Option Tree → Result A ScanError → Type 0
-Finds view expected (Ok a) = expected ≡ Some (view a)
-Finds view expected (Err e) = e ≢ scan_error.OutOfMemory → expected ≡ None
+abbrev pub FindsTree : {A : Type 0} → (A → Tree) → Option Tree → Result A ScanError → Type 0
+FindsTree view expected (Ok a) = expected ≡ Some (view a)
+FindsTree view expected (Err e) = e ≢ scan_error.OutOfMemory → expected ≡ None
 
 -- the same for the public error, whose position is at most this one
 abbrev pub Returns : {A : Type 0} → (A → Tree) → Option Tree → ℕ → Result A Error → Type 0

@@ -3,4 +3,4 @@ pub mod Paths
 pub mod Pairs
 pub mod Raw
 pub mod Parser
-pub mod Small
+pub mod Unallocated

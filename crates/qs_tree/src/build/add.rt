@@ -2,24 +2,24 @@
 ghost use Rattle.std.specs.Prelude.{◌≡◌, ◌+◌, ◌<◌, ◌≤◌, length, drop, false, IsOkAnd};
 ghost use Rattle.qs_spec.specs.Tree.{empty_segment, mapping};
 ghost use Rattle.qs_spec.specs.internal.InPlace as in_place;
-ghost use Rattle.qs_spec.specs.internal.InPlace.{add, add_flat, update};
-ghost use Rattle.qs_tree.specs.declared.scan.pair.Manner.TheVariants.{Direct};
-ghost use Rattle.qs_tree.specs.internal.build.Builder.{built_tree, built_entries, entries_seen, fresh, unsorted_entries, IsFlat};
+ghost use Rattle.qs_spec.specs.internal.InPlace.{add, add_to_leaves, update};
+ghost use Rattle.qs_tree.specs.declared.scan.pair.Manner.TheVariants.{Assign};
+ghost use Rattle.qs_tree.specs.internal.build.Builder.{built_tree, built_entries, entries_seen, fresh, unsorted_entries, HasNoMap};
 ghost use Rattle.std.specs.List.Sorted.{IsStrictlySortedBy};
 ghost use Rattle.std.specs.Map.{keys_of};
 ghost use Rattle.qs_tree.specs.tree.Keys.{key_cmp};
 ghost use Rattle.qs_tree.specs.internal.tree.Places.{IsPlaced};
-ghost use Rattle.qs_tree.specs.tree.Views.{marked_segment_of_key};
-ghost use Rattle.qs_tree.specs.internal.scan.Pairs.{IsBare, leaf_of, is_push, pair_of, path_of};
+ghost use Rattle.qs_tree.specs.tree.Views.{parsed_segment_of_key};
+ghost use Rattle.qs_tree.specs.internal.scan.Pairs.{IsRootValue, leaf_of, is_push, pair_of, path_of};
 ghost use Rattle.qs_tree.specs.internal.build.Adding.{AddGives};
 
 use crate::build::add_to_value::{add_at_end, add_to_leaves, add_to_value};
 use crate::build::builder::{MapBuilder, TreeBuilder, goes_between, into_tree, place_among};
 use crate::build::conflict::{AddError, ConflictKind};
-use crate::build::descent::{Frame, descend, map_of, rebuild};
+use crate::build::descent::{ParentMap, descend, map_of, rebuild};
 use crate::build::unsorted::Unsorted;
 use crate::scan::pair::{Leaf, Manner, Pair};
-use crate::tree::entries::Entries;
+use crate::tree::entries::SortedEntries;
 use crate::tree::key::Key;
 use std::alloc::Global;
 use std::collections::BTreeMap;
@@ -31,7 +31,7 @@ const LEVELS: usize = 64;
 /// Adds a pair to a tree, at the end of its path. The keys and the leaf are taken out of the pair.
 ///
 /// Returns an error if a node is in conflict with the pair, or if an allocation failed. The tree isn't used after that.
-/// Adding a direct leaf with an empty path to an empty tree doesn't allocate.
+/// Adding an assigned leaf with an empty path to an empty tree doesn't allocate.
 #[inline(always)]
 pub(crate) fn add_pair<'qs>(
     alloc: Global,
@@ -39,7 +39,7 @@ pub(crate) fn add_pair<'qs>(
     pair: &mut Pair<'qs>,
 ) -> Result<(), AddError>
     ensures added { let p = pair_of pair.old in AddGives (λ _. built_tree tree.new) (add p.path p.push p.leaf (built_tree tree.old)) result }
-    ensures fresh { IsBare pair.old → tree.old ≡ fresh → IsOkAnd result (λ _. IsFlat tree.new) }
+    ensures fresh { IsRootValue pair.old → tree.old ≡ fresh → IsOkAnd result (λ _. HasNoMap tree.new) }
 {
     add_along(alloc, tree, pair, 0)
 }
@@ -56,7 +56,7 @@ fn add_along<'qs>(
     requires { level ≤ length pair.old.path }
     ensures added { let push = is_push pair.old.manner in let path = path_of (drop level pair.old.path) in
         AddGives (λ _. built_tree node.new) (add path push (leaf_of pair.old.leaf) (built_tree node.old)) result }
-    ensures fresh { IsBare pair.old → level ≡ 0 → node.old ≡ fresh → IsOkAnd result (λ _. IsFlat node.new) }
+    ensures fresh { IsRootValue pair.old → level ≡ 0 → node.old ≡ fresh → IsOkAnd result (λ _. HasNoMap node.new) }
 {
     if let TreeBuilder::Value(value) = node {
         let left = pair.path.len() - level;
@@ -83,7 +83,7 @@ fn add_further<'qs>(
     requires { level ≤ length pair.old.path }
     ensures added { let push = is_push pair.old.manner in let path = path_of (drop level pair.old.path) in
         AddGives (λ _. built_tree node.new) (add path push (leaf_of pair.old.leaf) (built_tree node.old)) result }
-    ensures fresh { IsBare pair.old → level ≡ 0 → node.old ≡ fresh → IsOkAnd result (λ _. IsFlat node.new) }
+    ensures fresh { IsRootValue pair.old → level ≡ 0 → node.old ≡ fresh → IsOkAnd result (λ _. HasNoMap node.new) }
 {
     if level >= LEVELS {
         return add_by_zipper(alloc, node, pair, level);
@@ -103,7 +103,7 @@ fn add_further<'qs>(
     }
 }
 
-// Adds a pair that is a direct leaf with one key left.
+// Adds a pair that is an assigned leaf with one key left.
 #[inline(never)]
 fn add_unsorted<'qs>(
     leaves: &mut Unsorted<'qs>,
@@ -111,7 +111,7 @@ fn add_unsorted<'qs>(
     level: usize,
 ) -> Result<(), AddError>
     requires one { length pair.old.path ≡ level + 1 }
-    requires direct { is_push pair.old.manner ≡ false }
+    requires assigned { is_push pair.old.manner ≡ false }
     ensures { let push = is_push pair.old.manner in let path = path_of (drop level pair.old.path) in
         AddGives (λ _. mapping (unsorted_entries leaves.new)) (add path push (leaf_of pair.old.leaf) (mapping (unsorted_entries leaves.old))) result }
 {
@@ -140,7 +140,7 @@ fn add_out_of_order<'qs>(
         }
     }
     let key = pair.take_key(level);
-    let frame = Frame::open(alloc, node, key, level)?;
+    let frame = ParentMap::open(alloc, node, key, level)?;
     add_along(alloc, node, pair, level + 1)?;
     frame.close(alloc, node)
 }
@@ -157,13 +157,13 @@ fn add_at_key<'qs>(
 ) -> Result<(), AddError>
     requires { level ≤ length pair.old.path }
     ensures { let push = is_push pair.old.manner in let path = path_of (drop level pair.old.path) in
-        AddGives (λ _. built_entries map.new) (update (marked_segment_of_key key.entry) (add path push (leaf_of pair.old.leaf)) (built_entries map.old)) result }
+        AddGives (λ _. built_entries map.new) (update (parsed_segment_of_key key.entry) (add path push (leaf_of pair.old.leaf)) (built_entries map.old)) result }
 {
     match map {
         MapBuilder::Vector(entries) => {
             let place = place_among(entries.as_slice(), &key);
             if goes_between(place, entries.len()) {
-                let mut tree = into_tree(alloc, mem::replace(entries, Entries::new(alloc)))?;
+                let mut tree = into_tree(alloc, mem::replace(entries, SortedEntries::new(alloc)))?;
                 add_in_tree(alloc, &mut tree, key, pair, level)?;
                 *map = MapBuilder::Tree(tree);
                 Ok(())
@@ -180,7 +180,7 @@ fn add_at_key<'qs>(
 #[inline(always)]
 fn add_in_vector<'qs>(
     alloc: Global,
-    entries: &mut Entries<Key<'qs>, TreeBuilder<'qs>>,
+    entries: &mut SortedEntries<Key<'qs>, TreeBuilder<'qs>>,
     place: Result<usize, usize>,
     key: Key<'qs>,
     pair: &mut Pair<'qs>,
@@ -190,7 +190,7 @@ fn add_in_vector<'qs>(
     requires place { IsPlaced key_cmp key entries.old place }
     requires sorted { IsStrictlySortedBy key_cmp (keys_of entries.old) }
     ensures { let push = is_push pair.old.manner in let path = path_of (drop level pair.old.path) in
-        AddGives (λ _. entries_seen entries.new) (update (marked_segment_of_key key.entry) (add path push (leaf_of pair.old.leaf)) (entries_seen entries.old)) result }
+        AddGives (λ _. entries_seen entries.new) (update (parsed_segment_of_key key.entry) (add path push (leaf_of pair.old.leaf)) (entries_seen entries.old)) result }
 {
     match place {
         Ok(at) => add_along(alloc, entries.at_mut(at), pair, level),
@@ -213,7 +213,7 @@ fn add_in_tree<'qs>(
 ) -> Result<(), AddError>
     requires { level ≤ length pair.old.path }
     ensures { let push = is_push pair.old.manner in let path = path_of (drop level pair.old.path) in
-        AddGives (λ _. entries_seen tree.new.entries) (update (marked_segment_of_key key.entry) (add path push (leaf_of pair.old.leaf)) (entries_seen tree.old.entries)) result }
+        AddGives (λ _. entries_seen tree.new.entries) (update (parsed_segment_of_key key.entry) (add path push (leaf_of pair.old.leaf)) (entries_seen tree.old.entries)) result }
 {
     let child = tree.entry(key)?.or_insert(TreeBuilder::fresh());
     add_along(alloc, child, pair, level)
@@ -245,22 +245,22 @@ fn add_here<'qs>(
     pair: &mut Pair<'qs>,
 ) -> Result<(), AddError>
     ensures added { AddGives (λ _. built_tree node.new) (in_place.add_here (is_push pair.old.manner) (leaf_of pair.old.leaf) (built_tree node.old)) result }
-    ensures fresh { pair.old.manner ≡ Direct → node.old ≡ fresh → IsOkAnd result (λ _. IsFlat node.new) }
+    ensures fresh { pair.old.manner ≡ Assign → node.old ≡ fresh → IsOkAnd result (λ _. HasNoMap node.new) }
 {
     match node {
         TreeBuilder::Value(value) => add_at_end(alloc, value, pair),
         TreeBuilder::Unsorted(leaves) => match pair.manner {
-            Manner::Direct => Ok(leaves.push(Key::from(""), pair.leaf.take())?),
+            Manner::Assign => Ok(leaves.push(Key::from(""), pair.leaf.take())?),
             Manner::Push => Err(conflict(alloc, node, pair.path.len())),
         },
         TreeBuilder::Map(map) => match pair.manner {
-            Manner::Direct => add_at_empty(alloc, map, pair.leaf.take(), pair.path.len()),
+            Manner::Assign => add_at_empty(alloc, map, pair.leaf.take(), pair.path.len()),
             Manner::Push => Err(conflict(alloc, node, pair.path.len())),
         },
     }
 }
 
-// Adds a direct leaf at the empty string key of a map.
+// Adds an assigned leaf at the empty string key of a map.
 #[inline(never)]
 fn add_at_empty<'qs>(
     alloc: Global,
@@ -268,7 +268,7 @@ fn add_at_empty<'qs>(
     leaf: Leaf<'qs>,
     level: usize,
 ) -> Result<(), AddError>
-    ensures { AddGives (λ _. built_entries map.new) (update empty_segment (add_flat false (leaf_of leaf.entry)) (built_entries map.old)) result }
+    ensures { AddGives (λ _. built_entries map.new) (update empty_segment (add_to_leaves false (leaf_of leaf.entry)) (built_entries map.old)) result }
 {
     let key = Key::from("");
     let mut node = map.take(&key);
@@ -276,7 +276,7 @@ fn add_at_empty<'qs>(
     Ok(map.put(alloc, key, node)?)
 }
 
-// Adds a direct leaf to a node, or returns the conflict with a map.
+// Adds an assigned leaf to a node, or returns the conflict with a map.
 #[tactic(auto, using(crate::proofs::lemmas::Views::views))]
 fn add_leaf<'qs>(
     alloc: Global,
@@ -284,10 +284,10 @@ fn add_leaf<'qs>(
     leaf: Leaf<'qs>,
     level: usize,
 ) -> Result<(), AddError>
-    ensures { AddGives (λ _. built_tree node.new) (add_flat false (leaf_of leaf.entry) (built_tree node.old)) result }
+    ensures { AddGives (λ _. built_tree node.new) (add_to_leaves false (leaf_of leaf.entry) (built_tree node.old)) result }
 {
     match node {
-        TreeBuilder::Value(value) => add_to_leaves(alloc, value, leaf, Manner::Direct, level),
+        TreeBuilder::Value(value) => add_to_leaves(alloc, value, leaf, Manner::Assign, level),
         TreeBuilder::Map(_) => Err(conflict(alloc, node, level)),
         TreeBuilder::Unsorted(_) => Err(conflict(alloc, node, level)),
     }

@@ -2,10 +2,10 @@
 ghost use Rattle.std.specs.Prelude.{◌≡◌, ◌<◌, ◌≤◌, true, false, length, drop, IfOk, IsOkAnd, Some};
 ghost use Rattle.qs_spec.specs.Tree.{mapping, uninitialized};
 ghost use Rattle.qs_spec.specs.internal.InPlace as in_place;
-ghost use Rattle.qs_spec.specs.internal.InPlace.{add, add_flat, update};
-ghost use Rattle.qs_tree.specs.declared.scan.pair.Manner.TheVariants.{Direct};
+ghost use Rattle.qs_spec.specs.internal.InPlace.{add, add_to_leaves, update};
+ghost use Rattle.qs_tree.specs.declared.scan.pair.Manner.TheVariants.{Assign};
 ghost use Rattle.qs_tree.specs.declared.tree.value.ParsedValue.TheVariants.{Uninitialized};
-ghost use Rattle.qs_tree.specs.tree.Views.{marked_segment_of_key, tree_of, entries_of_map};
+ghost use Rattle.qs_tree.specs.tree.Views.{parsed_segment_of_key, tree_of, entries_of_map};
 ghost use Rattle.qs_tree.specs.internal.scan.Pairs.{leaf_of, is_push, path_of};
 ghost use Rattle.qs_tree.specs.internal.build.Builder.{IsNoMap, entries_held};
 ghost use Rattle.qs_tree.specs.internal.build.Adding.{Adds, AddGives, second};
@@ -13,7 +13,7 @@ ghost use Rattle.qs_tree.specs.internal.build.Adding.{Adds, AddGives, second};
 use crate::build::builder::{goes_between, key_list, place_among};
 use crate::build::conflict::{AddError, ConflictKind};
 use crate::scan::pair::{Leaf, Manner, Pair};
-use crate::tree::entries::Entries;
+use crate::tree::entries::SortedEntries;
 use crate::tree::key::Key;
 use crate::tree::map::ParsedMap;
 use crate::tree::value::ParsedValue;
@@ -126,11 +126,11 @@ fn value_of<'qs>(
     leaf: Leaf<'qs>,
     manner: Manner,
 ) -> Result<ParsedValue<'qs>, AllocError>
-    ensures value { IfOk result (λ value. add_flat (is_push manner) (leaf_of leaf.entry) uninitialized ≡ Some (tree_of value)) }
-    ensures direct { manner ≡ Direct → IsOkAnd result (λ value. IsNoMap (tree_of value)) }
+    ensures value { IfOk result (λ value. add_to_leaves (is_push manner) (leaf_of leaf.entry) uninitialized ≡ Some (tree_of value)) }
+    ensures assigned { manner ≡ Assign → IsOkAnd result (λ value. IsNoMap (tree_of value)) }
 {
     match manner {
-        Manner::Direct => Ok(leaf.into_value()),
+        Manner::Assign => Ok(leaf.into_value()),
         Manner::Push => Ok(ParsedValue::Sequence(vec![in alloc; leaf.into_value()]?)),
     }
 }
@@ -146,7 +146,7 @@ pub(crate) fn add_at_end<'qs>(
     pair: &mut Pair<'qs>,
 ) -> Result<(), AddError>
     ensures added { AddGives (λ _. tree_of value.new) (in_place.add_here (is_push pair.old.manner) (leaf_of pair.old.leaf) (tree_of value.old)) result }
-    ensures fresh { pair.old.manner ≡ Direct → value.old ≡ Uninitialized → IsOkAnd result (λ _. IsNoMap (tree_of value.new)) }
+    ensures fresh { pair.old.manner ≡ Assign → value.old ≡ Uninitialized → IsOkAnd result (λ _. IsNoMap (tree_of value.new)) }
 {
     let leaf = pair.leaf.take();
     match value {
@@ -165,8 +165,8 @@ pub(crate) fn add_to_leaves<'qs>(
     manner: Manner,
     level: usize,
 ) -> Result<(), AddError>
-    ensures added { AddGives (λ _. tree_of value.new) (in_place.add_flat (is_push manner) (leaf_of leaf.entry) (tree_of value.old)) result }
-    ensures fresh { manner ≡ Direct → value.old ≡ Uninitialized → IsOkAnd result (λ _. IsNoMap (tree_of value.new)) }
+    ensures added { AddGives (λ _. tree_of value.new) (in_place.add_to_leaves (is_push manner) (leaf_of leaf.entry) (tree_of value.old)) result }
+    ensures fresh { manner ≡ Assign → value.old ≡ Uninitialized → IsOkAnd result (λ _. IsNoMap (tree_of value.new)) }
 {
     match value {
         ParsedValue::Uninitialized => {
@@ -176,7 +176,7 @@ pub(crate) fn add_to_leaves<'qs>(
         ParsedValue::Sequence(items) => Ok(items.push(leaf.into_value())?),
         ParsedValue::Map(map) => Err(conflict(alloc, map, level)),
         _ => match manner {
-            Manner::Direct => add_second(alloc, value, leaf),
+            Manner::Assign => add_second(alloc, value, leaf),
             Manner::Push => Err(AddError::conflict(alloc, level, ConflictKind::PushOnLeaf)),
         },
     }
@@ -196,7 +196,7 @@ fn add_second<'qs>(
     Ok(())
 }
 
-// Adds a direct leaf at the empty string key of a map, or returns the conflict of a push.
+// Adds an assigned leaf at the empty string key of a map, or returns the conflict of a push.
 #[inline(never)]
 fn add_at_map<'qs>(
     alloc: Global,
@@ -208,23 +208,23 @@ fn add_at_map<'qs>(
     ensures { AddGives (λ _. mapping (entries_of_map map.new)) (in_place.add_here (is_push manner) (leaf_of leaf.entry) (mapping (entries_of_map map.old))) result }
 {
     match manner {
-        Manner::Direct => add_leaf_at(alloc, &mut map.map, Key::from(""), leaf, level),
+        Manner::Assign => add_leaf_at(alloc, &mut map.map, Key::from(""), leaf, level),
         Manner::Push => Err(conflict(alloc, map, level)),
     }
 }
 
-/// Adds a direct leaf to the node at a key, which is at a level of its path.
+/// Adds an assigned leaf to the node at a key, which is at a level of its path.
 pub(crate) fn add_leaf_at<'qs>(
     alloc: Global,
-    entries: &mut Entries<Key<'qs>, ParsedValue<'qs>>,
+    entries: &mut SortedEntries<Key<'qs>, ParsedValue<'qs>>,
     key: Key<'qs>,
     leaf: Leaf<'qs>,
     level: usize,
 ) -> Result<(), AddError>
-    ensures { AddGives (λ _. entries_held entries.new) (update (marked_segment_of_key key.entry) (add_flat false (leaf_of leaf.entry)) (entries_held entries.old)) result }
+    ensures { AddGives (λ _. entries_held entries.new) (update (parsed_segment_of_key key.entry) (add_to_leaves false (leaf_of leaf.entry)) (entries_held entries.old)) result }
 {
     match place_among(entries.as_slice(), &key) {
-        Ok(at) => add_to_leaves(alloc, entries.at_mut(at), leaf, Manner::Direct, level),
+        Ok(at) => add_to_leaves(alloc, entries.at_mut(at), leaf, Manner::Assign, level),
         Err(at) => Ok(entries.insert_at(at, key, leaf.into_value())?),
     }
 }

@@ -9,16 +9,16 @@ ghost use Rattle.std.specs.BTreeMap.{insert_entry};
 ghost use Rattle.qs_spec.specs.Tree.{mapping, no_entries};
 ghost use Rattle.qs_spec.specs.internal.InPlace.{update};
 ghost use Rattle.qs_tree.specs.declared.tree.key.Key.{Key};
-ghost use Rattle.qs_tree.specs.tree.Views.{marked_segment_of_key, tree_of, entries_of_map};
+ghost use Rattle.qs_tree.specs.tree.Views.{parsed_segment_of_key, tree_of, entries_of_map};
 ghost use Rattle.qs_tree.specs.tree.Keys.{key_cmp};
 ghost use Rattle.qs_tree.specs.tree.Lookup.{binary_digits};
 ghost use Rattle.qs_tree.specs.internal.tree.Places.{IsPlaced};
-ghost use Rattle.qs_tree.specs.internal.build.Builder.{built_tree, built_entries, entries_seen, fresh, as_builders, IsFlat, Takes};
+ghost use Rattle.qs_tree.specs.internal.build.Builder.{built_tree, built_entries, entries_seen, fresh, as_builders, HasNoMap, Takes};
 
 use crate::build::dropping::drop_builder;
 use crate::build::unsorted::{Unsorted, are_leaves};
 use crate::scan::cursor::Steps;
-use crate::tree::entries::Entries;
+use crate::tree::entries::SortedEntries;
 use crate::tree::key::Key;
 use crate::tree::map::{ParsedMap, search};
 use crate::tree::value::ParsedValue;
@@ -44,7 +44,7 @@ pub(crate) enum TreeBuilder<'qs> {
 /// entries. So inserting a key takes logarithmic time in any order of keys.
 #[cycle(builder)]
 pub(crate) enum MapBuilder<'qs> {
-    Vector(Entries<Key<'qs>, TreeBuilder<'qs>>),
+    Vector(SortedEntries<Key<'qs>, TreeBuilder<'qs>>),
     Tree(BTreeMap<Key<'qs>, TreeBuilder<'qs>>),
 }
 
@@ -66,7 +66,7 @@ impl<'qs> TreeBuilder<'qs> {
         alloc: Global,
     ) -> Result<Result<ParsedValue<'qs>, MapBuilder<'qs>>, AllocError>
         ensures found { IfOk result (λ node. MatchResult node (λ value. tree_of value ≡ built_tree self.entry) (λ map. built_tree self.entry ≡ mapping (built_entries map))) }
-        ensures flat { IsFlat self.entry → IsOk result }
+        ensures no_map { HasNoMap self.entry → IsOk result }
     {
         match self {
             TreeBuilder::Value(value) => Ok(Ok(value)),
@@ -95,7 +95,7 @@ impl<'qs> MapBuilder<'qs> {
     pub fn new(alloc: Global) -> Self
         ensures { built_entries result ≡ no_entries }
     {
-        MapBuilder::Vector(Entries::new(alloc))
+        MapBuilder::Vector(SortedEntries::new(alloc))
     }
 
     /// Returns a finished map as an unfinished one. Allocates a vector.
@@ -123,13 +123,16 @@ impl<'qs> MapBuilder<'qs> {
         key: Key<'qs>,
         node: TreeBuilder<'qs>,
     ) -> Result<(), AllocError>
-        ensures { OnOk result (update (marked_segment_of_key key.entry) (λ _. Some (built_tree node.entry)) (built_entries self.old) ≡ Some (built_entries self.new)) }
+        ensures { OnOk result (update (parsed_segment_of_key key.entry) (λ _. Some (built_tree node.entry)) (built_entries self.old) ≡ Some (built_entries self.new)) }
     {
         match self {
             MapBuilder::Vector(entries) => {
                 let place = place_among(entries.as_slice(), &key);
                 if goes_between(place, entries.len()) {
-                    let mut map = into_tree(alloc, mem::replace(entries, Entries::new(alloc)))?;
+                    let mut map = into_tree(
+                        alloc,
+                        mem::replace(entries, SortedEntries::new(alloc)),
+                    )?;
                     put_below(&mut map, key, node)?;
                     *self = MapBuilder::Tree(map);
                     Ok(())
@@ -149,7 +152,7 @@ impl<'qs> MapBuilder<'qs> {
     /// Returns the map's vector, or as `Err` its search tree. Doesn't allocate.
     pub fn into_form(
         self,
-    ) -> Result<Entries<Key<'qs>, TreeBuilder<'qs>>, BTreeMap<Key<'qs>, TreeBuilder<'qs>>>
+    ) -> Result<SortedEntries<Key<'qs>, TreeBuilder<'qs>>, BTreeMap<Key<'qs>, TreeBuilder<'qs>>>
         ensures { MatchResult result (λ entries. built_entries self.entry ≡ entries_seen entries) (λ tree. built_entries self.entry ≡ entries_seen tree.entries) }
     {
         match self {
@@ -162,7 +165,7 @@ impl<'qs> MapBuilder<'qs> {
     pub fn into_entries(
         self,
         alloc: Global,
-    ) -> Result<Entries<Key<'qs>, TreeBuilder<'qs>>, AllocError>
+    ) -> Result<SortedEntries<Key<'qs>, TreeBuilder<'qs>>, AllocError>
         ensures { IfOk result (λ entries. entries_seen entries ≡ built_entries self.entry) }
     {
         match self {
@@ -211,11 +214,11 @@ fn unsorted_map<'qs>(map: ParsedMap<'qs>) -> TreeBuilder<'qs>
 // Returns entries with finished nodes as entries under construction. Allocates a vector.
 fn as_builders<'qs>(
     alloc: Global,
-    entries: Entries<Key<'qs>, ParsedValue<'qs>>,
-) -> Result<Entries<Key<'qs>, TreeBuilder<'qs>>, AllocError>
+    entries: SortedEntries<Key<'qs>, ParsedValue<'qs>>,
+) -> Result<SortedEntries<Key<'qs>, TreeBuilder<'qs>>, AllocError>
     ensures { IfOk result (λ builders. builders ≡ as_builders entries.entry) }
 {
-    let mut builders = Entries::with_capacity(alloc, entries.len())?;
+    let mut builders = SortedEntries::with_capacity(alloc, entries.len())?;
     for entry in entries.into_items() {
         builders.push(entry.0, TreeBuilder::Value(entry.1))?;
     }
@@ -224,7 +227,7 @@ fn as_builders<'qs>(
 
 // Takes the node at a key of a vector, and leaves an empty one.
 fn take_at<'qs>(
-    entries: &mut Entries<Key<'qs>, TreeBuilder<'qs>>,
+    entries: &mut SortedEntries<Key<'qs>, TreeBuilder<'qs>>,
     key: &Key<'qs>,
 ) -> TreeBuilder<'qs>
     ensures { Takes key.now (entries_seen entries.old) (built_tree result) (entries_seen entries.new) }
@@ -292,13 +295,13 @@ fn take_below<'qs>(
 
 // Puts a node at the index of its key.
 fn put_at<'qs>(
-    entries: &mut Entries<Key<'qs>, TreeBuilder<'qs>>,
+    entries: &mut SortedEntries<Key<'qs>, TreeBuilder<'qs>>,
     place: Result<usize, usize>,
     key: Key<'qs>,
     node: TreeBuilder<'qs>,
 ) -> Result<(), AllocError>
     requires { IsPlaced key_cmp key entries.old place }
-    ensures { OnOk result (update (marked_segment_of_key key.entry) (λ _. Some (built_tree node.entry)) (entries_seen entries.old) ≡ Some (entries_seen entries.new)) }
+    ensures { OnOk result (update (parsed_segment_of_key key.entry) (λ _. Some (built_tree node.entry)) (entries_seen entries.old) ≡ Some (entries_seen entries.new)) }
 {
     match place {
         Ok(at) => {
@@ -315,7 +318,7 @@ fn put_below<'qs>(
     key: Key<'qs>,
     node: TreeBuilder<'qs>,
 ) -> Result<(), AllocError>
-    ensures { OnOk result (update (marked_segment_of_key key.entry) (λ _. Some (built_tree node.entry)) (entries_seen map.old.entries) ≡ Some (entries_seen map.new.entries)) }
+    ensures { OnOk result (update (parsed_segment_of_key key.entry) (λ _. Some (built_tree node.entry)) (entries_seen map.old.entries) ≡ Some (entries_seen map.new.entries)) }
 {
     Ok(insert(map, key, node)?)
 }
@@ -336,7 +339,7 @@ fn insert<'qs>(
 #[inline(never)]
 pub(crate) fn into_tree<'qs>(
     alloc: Global,
-    entries: Entries<Key<'qs>, TreeBuilder<'qs>>,
+    entries: SortedEntries<Key<'qs>, TreeBuilder<'qs>>,
 ) -> Result<BTreeMap<Key<'qs>, TreeBuilder<'qs>>, AllocError>
     ensures { IfOk result (λ map. map.entries ≡ entries.entry) }
 {
@@ -352,10 +355,10 @@ pub(crate) fn into_tree<'qs>(
 fn into_vector<'qs>(
     alloc: Global,
     map: BTreeMap<Key<'qs>, TreeBuilder<'qs>>,
-) -> Result<Entries<Key<'qs>, TreeBuilder<'qs>>, AllocError>
+) -> Result<SortedEntries<Key<'qs>, TreeBuilder<'qs>>, AllocError>
     ensures { IfOk result (λ entries. entries ≡ map.entry.entries) }
 {
-    let mut entries = Entries::with_capacity(alloc, map.len())?;
+    let mut entries = SortedEntries::with_capacity(alloc, map.len())?;
     for entry in map {
         entries.push(entry.0, entry.1)?;
     }

@@ -46,7 +46,7 @@ pub(crate) struct Conflict {
 pub(crate) enum ConflictKind {
     /// A push onto a leaf.
     PushOnLeaf,
-    /// A push onto a map, or a direct leaf for a map that has a map at the empty string key. Holds the keys of the map as
+    /// A push onto a map, or an assigned leaf for a map that has a map at the empty string key. Holds the keys of the map as
     /// `Display` writes them, separated by `, `.
     LeafOnMap(String),
     /// A path through a sequence.

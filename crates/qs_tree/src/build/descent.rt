@@ -1,6 +1,6 @@
 //! From a node down along a path to the node at its end, and back up: a zipper.
 ghost use Rattle.std.specs.Prelude.{◌≡◌, ◌≤◌, [], length, drop, MatchResult};
-ghost use Rattle.qs_tree.specs.tree.Views.{marked_segment_of_key, tree_of};
+ghost use Rattle.qs_tree.specs.tree.Views.{parsed_segment_of_key, tree_of};
 ghost use Rattle.qs_tree.specs.internal.scan.Pairs.{path_of};
 ghost use Rattle.qs_tree.specs.internal.build.Builder.{built_tree, built_entries};
 ghost use Rattle.qs_tree.specs.internal.build.Adding.{AddGives, IsRejected, entries_below};
@@ -17,12 +17,12 @@ use std::mem;
 
 /// A map from which the node at one key is taken out.
 #[derive(Drop)]
-pub(crate) struct Frame<'qs> {
+pub(crate) struct ParentMap<'qs> {
     map: MapBuilder<'qs>,
     key: Key<'qs>,
 }
 
-impl<'qs> Frame<'qs> {
+impl<'qs> ParentMap<'qs> {
     /// Replaces a map by its node at a key, and returns the rest of the map. An empty node becomes a map first. The node at the key may
     /// be empty.
     ///
@@ -32,21 +32,21 @@ impl<'qs> Frame<'qs> {
         node: &mut TreeBuilder<'qs>,
         key: Key<'qs>,
         level: usize,
-    ) -> Result<Frame<'qs>, AddError>
+    ) -> Result<ParentMap<'qs>, AddError>
         ensures { let before = built_tree node.old in MatchResult result
-            (λ frame. IsOpen (marked_segment_of_key key.entry) before frame (built_tree node.new))
+            (λ frame. IsOpen (parsed_segment_of_key key.entry) before frame (built_tree node.new))
             (λ error. IsRejected (entries_below before) error) }
     {
         let mut map = map_of(alloc, mem::replace(node, TreeBuilder::fresh()), level)?;
         *node = map.take(&key);
-        Ok(Frame { map, key })
+        Ok(ParentMap { map, key })
     }
 
     /// Replaces the node at the key by the whole map. Returns an error only if an allocation failed.
     pub fn close(self, alloc: Global, node: &mut TreeBuilder<'qs>) -> Result<(), AddError>
         ensures { AddGives (λ _. built_tree node.new) (put_back self.entry (built_tree node.old)) result }
     {
-        let Frame { mut map, key } = self;
+        let ParentMap { mut map, key } = self;
         map.put(alloc, key, mem::replace(node, TreeBuilder::fresh()))?;
         *node = TreeBuilder::Map(map);
         Ok(())
@@ -63,7 +63,7 @@ pub(crate) fn descend<'qs>(
     node: &mut TreeBuilder<'qs>,
     pair: &mut Pair<'qs>,
     level: usize,
-) -> Result<Vec<Frame<'qs>>, AddError>
+) -> Result<Vec<ParentMap<'qs>>, AddError>
     requires { level ≤ length pair.old.path }
     ensures way { let path = path_of (drop level pair.old.path) in let before = built_tree node.old in MatchResult result
         (λ frames. Leads path before frames.items [] (built_tree node.new)) (λ error. IsBarred path before error) }
@@ -74,7 +74,7 @@ pub(crate) fn descend<'qs>(
     let mut level = level;
     while level < pair.path.len() {
         let key = pair.take_key(level);
-        let frame = Frame::open(alloc, node, key, level)?;
+        let frame = ParentMap::open(alloc, node, key, level)?;
         frames.push(frame)?;
         level += 1;
     }
@@ -86,7 +86,7 @@ pub(crate) fn descend<'qs>(
 /// Returns an error only if an allocation failed.
 pub(crate) fn rebuild<'qs>(
     alloc: Global,
-    frames: Vec<Frame<'qs>>,
+    frames: Vec<ParentMap<'qs>>,
     node: &mut TreeBuilder<'qs>,
 ) -> Result<(), AddError>
     ensures { AddGives (λ _. built_tree node.new) (put_all_back frames.entry.items (built_tree node.old)) result }

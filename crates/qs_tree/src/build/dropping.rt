@@ -8,7 +8,7 @@ ghost use Rattle.qs_tree.specs.internal.tree.NodeCount.{node_count, entries_node
 ghost use Rattle.qs_tree.specs.internal.build.Builder.{built_tree, entries_seen};
 
 use crate::build::builder::{MapBuilder, TreeBuilder};
-use crate::tree::entries::Entries;
+use crate::tree::entries::SortedEntries;
 use crate::tree::key::Key;
 use std::collections::BTreeMap;
 
@@ -57,7 +57,7 @@ fn drop_first_leaf<'qs>(node: TreeBuilder<'qs>, above: TreeBuilder<'qs>) -> Tree
 
 // Drops the first leaf below the last entry of a vector, and returns its parent.
 #[cycle(dropping)]
-fn without_last<'qs>(entries: Entries<Key<'qs>, TreeBuilder<'qs>>) -> TreeBuilder<'qs>
+fn without_last<'qs>(entries: SortedEntries<Key<'qs>, TreeBuilder<'qs>>) -> TreeBuilder<'qs>
     ensures { node_count (built_tree result) < 2 + entries_node_count (entries_seen entries.entry) }
 {
     let mut entries = entries;

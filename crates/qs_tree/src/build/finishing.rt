@@ -5,12 +5,12 @@ ghost use Rattle.std.specs.Map.{keys_of};
 ghost use Rattle.qs_spec.specs.Tree.Tree.{mapping};
 ghost use Rattle.qs_tree.specs.tree.Keys.{key_cmp};
 ghost use Rattle.qs_tree.specs.tree.Views.{tree_of, entries_of_map};
-ghost use Rattle.qs_tree.specs.internal.build.Builder.{built_tree, built_entries, IsFlat};
+ghost use Rattle.qs_tree.specs.internal.build.Builder.{built_tree, built_entries, HasNoMap};
 ghost use Rattle.qs_tree.specs.internal.build.Finishing.{level_pairs, from_map, with_node, maps_among, maps_left, IsOpened};
 ghost use Rattle.qs_tree.specs.internal.tree.KeyTrees.{key_trees};
 
 use crate::build::builder::{MapBuilder, TreeBuilder};
-use crate::tree::entries::Entries;
+use crate::tree::entries::SortedEntries;
 use crate::tree::key::Key;
 use crate::tree::map::ParsedMap;
 use crate::tree::value::ParsedValue;
@@ -21,14 +21,14 @@ use std::vec::IntoIter;
 #[derive(Drop)]
 struct Level<'qs> {
     /// The finished entries.
-    done: Entries<Key<'qs>, ParsedValue<'qs>>,
+    done: SortedEntries<Key<'qs>, ParsedValue<'qs>>,
     /// The other entries.
     left: IntoIter<(Key<'qs>, TreeBuilder<'qs>)>,
 }
 
 /// A map, and the key at which a map is being finished.
 #[derive(Drop)]
-struct Frame<'qs> {
+struct OuterLevel<'qs> {
     level: Level<'qs>,
     key: Key<'qs>,
 }
@@ -41,7 +41,7 @@ impl<'qs> TreeBuilder<'qs> {
     #[inline(always)]
     pub fn finish(self, alloc: Global) -> Result<ParsedValue<'qs>, AllocError>
         ensures tree { IfOk result (λ value. tree_of value ≡ built_tree self.entry) }
-        ensures flat { IsFlat self.entry → IsOk result }
+        ensures no_map { HasNoMap self.entry → IsOk result }
     {
         match self.into_value(alloc)? {
             Ok(value) => Ok(value),
@@ -56,7 +56,7 @@ fn finish_map<'qs>(alloc: Global, map: MapBuilder<'qs>) -> Result<ParsedMap<'qs>
     ensures { IfOk result (λ done. entries_of_map done ≡ built_entries map.entry) }
 {
     let mut level = open_level(alloc, map)?;
-    let mut stack: Vec<Frame<'qs>> = Vec::new(alloc);
+    let mut stack: Vec<OuterLevel<'qs>> = Vec::new(alloc);
     loop {
         let Some((key, map)) = level.next_map(alloc)? else {
             let map = ParsedMap { map: level.done };
@@ -67,7 +67,7 @@ fn finish_map<'qs>(alloc: Global, map: MapBuilder<'qs>) -> Result<ParsedMap<'qs>
             continue;
         };
         let inner = open_level(alloc, map)?;
-        stack.push(Frame { level, key })?;
+        stack.push(OuterLevel { level, key })?;
         level = inner;
     }
 }
@@ -77,7 +77,7 @@ fn open_level<'qs>(alloc: Global, map: MapBuilder<'qs>) -> Result<Level<'qs>, Al
     ensures { IfOk result (IsOpened (built_entries map.entry)) }
 {
     let entries = map.into_entries(alloc)?;
-    let done = Entries::with_capacity(alloc, entries.len())?;
+    let done = SortedEntries::with_capacity(alloc, entries.len())?;
     Ok(Level {
         done,
         left: entries.into_items().into_iter(),
@@ -102,14 +102,14 @@ impl<'qs> Level<'qs> {
     }
 }
 
-impl<'qs> Frame<'qs> {
+impl<'qs> OuterLevel<'qs> {
     // Puts the finished map at its key.
     fn resume(self, map: ParsedMap<'qs>) -> Result<Level<'qs>, AllocError>
         requires { IsStrictlySortedBy key_cmp (keys_of (with_node self (mapping (entries_of_map map)))) }
         ensures pairs { IfOk result (λ level. level_pairs level ≡ with_node self.entry (mapping (entries_of_map map.entry))) }
         ensures same { IfOk result (λ level. maps_left level ≡ maps_left self.entry.level) }
     {
-        let Frame { mut level, key } = self;
+        let OuterLevel { mut level, key } = self;
         level.done.push(key, ParsedValue::Map(map))?;
         Ok(level)
     }

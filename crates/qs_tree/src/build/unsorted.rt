@@ -4,8 +4,8 @@
 ghost use Rattle.std.specs.Prelude.{◌≡◌, Some, false, IfOk, OnOk};
 ghost use Rattle.std.specs.List.{list_all};
 ghost use Rattle.std.specs.List.Sorted.{IsPermutation};
-ghost use Rattle.qs_spec.specs.internal.InPlace.{add_flat, add_here, update};
-ghost use Rattle.qs_tree.specs.tree.Views.{marked_segment_of_key, entries_of_map, tree_of};
+ghost use Rattle.qs_spec.specs.internal.InPlace.{add_to_leaves, add_here, update};
+ghost use Rattle.qs_tree.specs.tree.Views.{parsed_segment_of_key, entries_of_map, tree_of};
 ghost use Rattle.qs_tree.specs.internal.scan.Pairs.{leaf_of};
 ghost use Rattle.qs_tree.specs.internal.build.Unsorted.{AreLeaves, entries_of_leaves, is_leaf};
 
@@ -13,7 +13,7 @@ use crate::build::add_to_value::add_leaf_at;
 use crate::build::conflict::AddError;
 use crate::build::distinct::have_distinct_keys;
 use crate::scan::pair::Leaf;
-use crate::tree::entries::{Entries, reserve_one};
+use crate::tree::entries::{SortedEntries, reserve_one};
 use crate::tree::key::Key;
 use crate::tree::map::ParsedMap;
 use crate::tree::value::ParsedValue;
@@ -43,10 +43,10 @@ impl<'qs> Unsorted<'qs> {
     }
 
     /// Adds a leaf at a key.
-    #[tactic(auto, using(crate::proofs::lemmas::build::Unsorted::added_flat, crate::proofs::lemmas::build::Unsorted::added_here))]
+    #[tactic(auto, using(crate::proofs::lemmas::build::Unsorted::added_to_leaves, crate::proofs::lemmas::build::Unsorted::added_here))]
     pub fn push(&mut self, key: Key<'qs>, leaf: Leaf<'qs>) -> Result<(), AllocError>
-        ensures flat { OnOk result (update (marked_segment_of_key key.entry) (add_flat false (leaf_of leaf.entry)) (unsorted_entries self.old) ≡ Some (unsorted_entries self.new)) }
-        ensures here { OnOk result (update (marked_segment_of_key key.entry) (add_here false (leaf_of leaf.entry)) (unsorted_entries self.old) ≡ Some (unsorted_entries self.new)) }
+        ensures leaves { OnOk result (update (parsed_segment_of_key key.entry) (add_to_leaves false (leaf_of leaf.entry)) (unsorted_entries self.old) ≡ Some (unsorted_entries self.new)) }
+        ensures here { OnOk result (update (parsed_segment_of_key key.entry) (add_here false (leaf_of leaf.entry)) (unsorted_entries self.old) ≡ Some (unsorted_entries self.new)) }
     {
         reserve_one(&mut self.leaves)?;
         self.leaves.push_reserved((key, leaf.into_value()));
@@ -58,12 +58,12 @@ impl<'qs> Unsorted<'qs> {
     pub fn into_entries(
         self,
         alloc: Global,
-    ) -> Result<Entries<Key<'qs>, ParsedValue<'qs>>, AllocError>
+    ) -> Result<SortedEntries<Key<'qs>, ParsedValue<'qs>>, AllocError>
         ensures { IfOk result (λ entries. entries_held entries ≡ unsorted_entries self.entry) }
     {
         let mut leaves = self.leaves;
         sort(alloc, &mut leaves)?;
-        match Entries::of_sorted(leaves) {
+        match SortedEntries::of_sorted(leaves) {
             Ok(entries) => Ok(entries),
             Err(leaves) => Self::merge(alloc, leaves),
         }
@@ -74,10 +74,10 @@ impl<'qs> Unsorted<'qs> {
     fn merge(
         alloc: Global,
         leaves: Vec<(Key<'qs>, ParsedValue<'qs>)>,
-    ) -> Result<Entries<Key<'qs>, ParsedValue<'qs>>, AllocError>
+    ) -> Result<SortedEntries<Key<'qs>, ParsedValue<'qs>>, AllocError>
         ensures { IfOk result (λ entries. entries_held entries ≡ entries_of_leaves leaves.entry.items) }
     {
-        let mut entries = Entries::with_capacity(alloc, leaves.len())?;
+        let mut entries = SortedEntries::with_capacity(alloc, leaves.len())?;
         for entry in leaves {
             match add_leaf_at(alloc, &mut entries, entry.0, Leaf::of(entry.1), 0) {
                 Ok(()) => {}

@@ -3,7 +3,7 @@
 ghost use Rattle.std.specs.Prelude.{◌≡◌, ◌+◌, ◌<◌, ◌≤◌, ◌++◌, false, length, IfOk, IsOk, IsTrue, SomeIff, take, drop};
 ghost use Rattle.std.specs.Char.{digit_value};
 ghost use Rattle.std.specs.Cow.{cow_slice_items};
-ghost use Rattle.qs_spec.specs.Escape.{decoded, is_marked};
+ghost use Rattle.qs_spec.specs.Escape.{decoded, has_escape};
 ghost use Rattle.qs_tree.specs.Error.{OnlyOutOfMemory};
 ghost use Rattle.qs_tree.specs.escape.Copies.{is_owned};
 
@@ -30,19 +30,19 @@ use std::borrow::CowSlice;
 /// ```
 pub fn decode(alloc: Global, bytes: &[u8]) -> Result<CowSlice<'_, u8>>
     ensures value { IfOk result (λ text. cow_slice_items text ≡ decoded bytes.now) }
-    ensures owned { IfOk result (λ text. is_owned text ≡ is_marked bytes.now) }
-    ensures no_allocation { is_marked bytes.now ≡ false → IsOk result }
+    ensures owned { IfOk result (λ text. is_owned text ≡ has_escape bytes.now) }
+    ensures no_allocation { has_escape bytes.now ≡ false → IsOk result }
     ensures errors { OnlyOutOfMemory result }
 {
     Ok(unescape(alloc, bytes)?)
 }
 
 /// Percent-decodes bytes as [`decode`] does.
-#[tactic(auto, using(crate::proofs::lemmas::escape::DecodedFronts::decoded_unmarked))]
+#[tactic(auto, using(crate::proofs::lemmas::escape::DecodedFronts::decoded_without_escape))]
 pub(crate) fn unescape(alloc: Global, bytes: &[u8]) -> Result<CowSlice<'_, u8>, AllocError>
     ensures value { IfOk result (λ text. cow_slice_items text ≡ decoded bytes.now) }
-    ensures owned { IfOk result (λ text. is_owned text ≡ is_marked bytes.now) }
-    ensures no_allocation { is_marked bytes.now ≡ false → IsOk result }
+    ensures owned { IfOk result (λ text. is_owned text ≡ has_escape bytes.now) }
+    ensures no_allocation { has_escape bytes.now ≡ false → IsOk result }
 {
     match find_escape(bytes) {
         Some(front) => Ok(CowSlice::Owned(unescaped(alloc, bytes, front)?)),
@@ -50,20 +50,20 @@ pub(crate) fn unescape(alloc: Global, bytes: &[u8]) -> Result<CowSlice<'_, u8>, 
     }
 }
 
-/// Percent-decodes bytes as [`decode`] does. Doesn't look for `+` and `%` if it is known that there are none (`is_unmarked`).
+/// Percent-decodes bytes as [`decode`] does. Doesn't look for `+` and `%` if it is known that there are none (`has_no_escape`).
 #[inline(always)]
-#[tactic(auto, using(crate::proofs::lemmas::escape::DecodedFronts::decoded_unmarked))]
+#[tactic(auto, using(crate::proofs::lemmas::escape::DecodedFronts::decoded_without_escape))]
 pub(crate) fn unescape_unless(
-    is_unmarked: bool,
+    has_no_escape: bool,
     alloc: Global,
     bytes: &[u8],
 ) -> Result<CowSlice<'_, u8>, AllocError>
-    requires { IsTrue is_unmarked → is_marked bytes.now ≡ false }
+    requires { IsTrue has_no_escape → has_escape bytes.now ≡ false }
     ensures value { IfOk result (λ text. cow_slice_items text ≡ decoded bytes.now) }
-    ensures owned { IfOk result (λ text. is_owned text ≡ is_marked bytes.now) }
-    ensures no_allocation { is_marked bytes.now ≡ false → IsOk result }
+    ensures owned { IfOk result (λ text. is_owned text ≡ has_escape bytes.now) }
+    ensures no_allocation { has_escape bytes.now ≡ false → IsOk result }
 {
-    if is_unmarked {
+    if has_no_escape {
         return Ok(CowSlice::Borrowed(bytes));
     }
     unescape(alloc, bytes)

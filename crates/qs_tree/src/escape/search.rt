@@ -3,19 +3,19 @@
 mod class;
 mod classes;
 mod encoded;
-mod marks;
+mod escapes;
 
 ghost use Rattle.std.specs.Prelude.{◌≡◌, ◌<◌, length, take, position, IfSome, IsTrue, is_some, false};
 ghost use Rattle.std.specs.List.{position_or_len};
-ghost use Rattle.qs_spec.specs.Escape.{is_marked};
+ghost use Rattle.qs_spec.specs.Escape.{has_escape};
 ghost use Rattle.qs_tree.specs.escape.Classes.{is_escape, is_ampersand, is_encoded};
 
 pub(crate) use self::class::{Class, LANES, count, run};
 pub(crate) use self::classes::{CLASSES, CLOSE, ESCAPE, OPEN, SEPARATOR, is_ordinary};
 use self::encoded::Encoded;
 pub(crate) use self::encoded::Escaped;
-pub(crate) use self::marks::Byte;
-use self::marks::Escape;
+pub(crate) use self::escapes::Byte;
+use self::escapes::Escape;
 
 /// Returns the index of the first `+` or `%`, or `None`.
 ///
@@ -28,7 +28,7 @@ use self::marks::Escape;
 pub fn find_escape(bytes: &[u8]) -> Option<usize>
     ensures first { result ≡ position is_escape bytes.now }
     ensures within { IfSome result (λ at. at < length bytes.now) }
-    ensures found { is_some result ≡ is_marked bytes.now }
+    ensures found { is_some result ≡ has_escape bytes.now }
 {
     find_first(Escape, bytes)
 }
@@ -53,17 +53,17 @@ pub fn find_ampersand(bytes: &[u8]) -> Option<usize>
 #[tactic(auto, using(crate::proofs::lemmas::escape::FirstPlace::none_in_front))]
 pub(crate) fn find_value_end(bytes: &[u8]) -> (usize, bool)
     ensures first { result.0 ≡ position_or_len is_ampersand bytes.now }
-    ensures is_unmarked { IsTrue result.1 → is_marked (take result.0 bytes.now) ≡ false }
+    ensures has_no_escape { IsTrue result.1 → has_escape (take result.0 bytes.now) ≡ false }
 {
     let mut at = 0;
-    let mut is_unmarked = true;
+    let mut has_no_escape = true;
     while bytes.len() - at >= LANES {
         let end = run(Byte(b'&'), bytes, at);
         if run(Escape, bytes, at) < end {
-            is_unmarked = false;
+            has_no_escape = false;
         }
         if end < LANES {
-            return (at + end, is_unmarked);
+            return (at + end, has_no_escape);
         }
         at += LANES;
     }
@@ -74,15 +74,15 @@ pub(crate) fn find_value_end(bytes: &[u8]) -> (usize, bool)
                 break;
             }
             if Escape.has(byte) {
-                is_unmarked = false;
+                has_no_escape = false;
             }
         }
         at += 1;
     }
-    (at, is_unmarked)
+    (at, has_no_escape)
 }
 
-/// Returns the index of the first byte that [`encode`](crate::encode) changes in form encoding (`form`) or query encoding, or `None`.
+/// Returns the index of the first byte that [`encode`](crate::encode) changes in form encoding (`is_form`) or query encoding, or `None`.
 /// Both encodings change a space. If there are 32 bytes or more, `encode` copies those before the index at once, in multiples of 32.
 ///
 /// Doesn't allocate. Tests 32 bytes at a time, each once.
@@ -90,11 +90,11 @@ pub(crate) fn find_value_end(bytes: &[u8]) -> (usize, bool)
 /// ```
 /// find_encoded(b"a b", false) // Some(1)
 /// ```
-pub fn find_encoded(bytes: &[u8], form: bool) -> Option<usize>
-    ensures first { result ≡ position (is_encoded form) bytes.now }
+pub fn find_encoded(bytes: &[u8], is_form: bool) -> Option<usize>
+    ensures first { result ≡ position (is_encoded is_form) bytes.now }
     ensures within { IfSome result (λ at. at < length bytes.now) }
 {
-    find_first(Encoded { form }, bytes)
+    find_first(Encoded { is_form }, bytes)
 }
 
 // Returns the index of the first byte of a class, or `None`. Tests 32 bytes at a time, and the rest one by one.

@@ -102,8 +102,13 @@ impl ScanError {
             }
             ScanError::Conflict(conflict) => {
                 let Conflict { level, kind } = Box::into_inner(conflict);
-                let site = cursor.site(level, max_depth);
-                conflict_error(alloc, kind, site.key, all.saturating_sub(site.to_come))
+                let conflict_position = cursor.conflict_position(level, max_depth);
+                conflict_error(
+                    alloc,
+                    kind,
+                    conflict_position.key,
+                    all.saturating_sub(conflict_position.to_come),
+                )
             }
             ScanError::OutOfMemory => Error::OutOfMemory,
         }

@@ -1,10 +1,10 @@
 //! A cursor over an input, which takes it token by token and counts the steps.
 
-mod site;
+mod conflict_position;
 mod steps;
 
 ghost use Rattle.std.specs.Prelude.{◌≡◌, ℕ, ◌+◌, ◌++◌, ◌<◌, ◌≤◌, ◌-◌, [], length, take, drop, IfSome, IfNone, IsTrue, true, false};
-ghost use Rattle.qs_spec.specs.Escape.{is_marked};
+ghost use Rattle.qs_spec.specs.Escape.{has_escape};
 ghost use Rattle.qs_spec.specs.Token.{raw_of, tokens};
 ghost use Rattle.qs_tree.specs.Parsing.{is_unescaped};
 ghost use Rattle.qs_tree.specs.escape.Classes.{is_escape};
@@ -18,7 +18,7 @@ use std::mem;
 
 /// The kind of a token.
 #[derive(Clone, Copy)]
-pub(crate) enum Kind {
+pub(crate) enum TokenKind {
     Ampersand,
     Equals,
     Open,
@@ -26,50 +26,50 @@ pub(crate) enum Kind {
     Other(u8),
 }
 
-impl Kind {
+impl TokenKind {
     /// Returns whether it is `&`.
     pub fn is_ampersand(self) -> bool
         ensures { result ≡ is_amp (kind_of_token self) }
     {
-        matches!(self, Kind::Ampersand)
+        matches!(self, TokenKind::Ampersand)
     }
 
     /// Returns whether it is `=`.
     pub fn is_equals(self) -> bool
         ensures { result ≡ is_equals (kind_of_token self) }
     {
-        matches!(self, Kind::Equals)
+        matches!(self, TokenKind::Equals)
     }
 
     /// Returns whether it is an opening bracket.
     pub fn is_open(self) -> bool
         ensures { result ≡ is_open (kind_of_token self) }
     {
-        matches!(self, Kind::Open)
+        matches!(self, TokenKind::Open)
     }
 
     /// Returns whether it is a closing bracket.
     pub fn is_close(self) -> bool
         ensures { result ≡ is_close (kind_of_token self) }
     {
-        matches!(self, Kind::Close)
+        matches!(self, TokenKind::Close)
     }
 }
 
 /// A token: a byte, or in form encoding an escaped bracket.
 #[derive(Clone, Copy)]
 pub(crate) struct Token<'qs> {
-    pub kind: Kind,
+    pub kind: TokenKind,
     pub raw: &'qs [u8],
     /// The position of its first byte.
-    pub place: Place<'qs>,
+    pub position: Position<'qs>,
 }
 
 impl Token<'_> {
     /// Returns whether it is known to have no `+` and `%`.
     #[inline(always)]
-    pub fn is_unmarked(&self) -> bool
-        ensures { IsTrue result → is_marked self.now.raw.now ≡ false }
+    pub fn has_no_escape(&self) -> bool
+        ensures { IsTrue result → has_escape self.now.raw.now ≡ false }
     {
         matches!(self.raw, [byte] if *byte != b'+' && *byte != b'%')
     }
@@ -77,7 +77,7 @@ impl Token<'_> {
 
 /// A position in the input, as the bytes from there on.
 #[derive(Clone, Copy)]
-pub(crate) struct Place<'qs> {
+pub(crate) struct Position<'qs> {
     rest: &'qs [u8],
 }
 
@@ -110,72 +110,73 @@ impl Until {
     #[tactic(auto, using(crate::proofs::lemmas::escape::ByteClasses::inside_alone))]
     fn is_inside(self, byte: u8) -> bool
         ensures inside { IsTrue result → IsInside (ends_of self) byte }
-        ensures is_unmarked { IsTrue result → is_escape byte ≡ false }
+        ensures has_no_escape { IsTrue result → is_escape byte ≡ false }
     {
         CLASSES[byte as usize] & self.classes() == 0
     }
 
     // Returns whether a token of this kind ends the run.
-    fn is_at(self, kind: Kind) -> bool
+    fn is_at(self, kind: TokenKind) -> bool
         ensures { result ≡ ends_of self (kind_of_token kind) }
     {
         match (self, kind) {
-            (Until::Close, Kind::Close) => true,
-            (Until::Separator | Until::SeparatorOrOpen, Kind::Ampersand | Kind::Equals) => true,
-            (Until::SeparatorOrOpen, Kind::Open) => true,
+            (Until::Close, TokenKind::Close) => true,
+            (Until::Separator | Until::SeparatorOrOpen, TokenKind::Ampersand | TokenKind::Equals) =>
+                true,
+            (Until::SeparatorOrOpen, TokenKind::Open) => true,
             _ => false,
         }
     }
 }
 
 // Returns the kind of the first token, and its length.
-fn first_token(bytes: &[u8], form: bool) -> (Kind, usize)
+fn first_token(bytes: &[u8], is_form: bool) -> (TokenKind, usize)
     requires { 0 < length bytes.now }
-    ensures token { BeginsWith form bytes.now result.0 result.1 }
+    ensures token { BeginsWith is_form bytes.now result.0 result.1 }
     ensures some { 0 < result.1 }
     ensures within { result.1 ≤ length bytes.now }
 {
-    if form && bytes.len() >= 3 && bytes[0] == b'%' && bytes[1] == b'5' {
+    if is_form && bytes.len() >= 3 && bytes[0] == b'%' && bytes[1] == b'5' {
         if bytes[2] == b'B' {
-            return (Kind::Open, 3);
+            return (TokenKind::Open, 3);
         }
         if bytes[2] == b'D' {
-            return (Kind::Close, 3);
+            return (TokenKind::Close, 3);
         }
     }
     match bytes[0] {
-        b'&' => (Kind::Ampersand, 1),
-        b'=' => (Kind::Equals, 1),
-        b'[' => (Kind::Open, 1),
-        b']' => (Kind::Close, 1),
-        byte => (Kind::Other(byte), 1),
+        b'&' => (TokenKind::Ampersand, 1),
+        b'=' => (TokenKind::Equals, 1),
+        b'[' => (TokenKind::Open, 1),
+        b']' => (TokenKind::Close, 1),
+        byte => (TokenKind::Other(byte), 1),
     }
 }
 
 // Returns the length of a run, without the token that ends it, and whether it is known to have no `+` and `%`.
 #[inline(always)]
 #[tactic(auto, using(crate::proofs::lemmas::escape::FirstPlace::none_in_front))]
-fn run_len(bytes: &[u8], form: bool, until: Until) -> (usize, bool)
+fn run_len(bytes: &[u8], is_form: bool, until: Until) -> (usize, bool)
     ensures within { result.0 ≤ length bytes.now }
-    ensures run { take result.0 bytes.now ≡ raw_of (cut (ends_of until) (tokens form bytes.now)).0 }
-    ensures stop { tokens form (drop result.0 bytes.now) ≡ (cut (ends_of until) (tokens form bytes.now)).1 }
-    ensures is_unmarked { IsTrue result.1 → is_marked (take result.0 bytes.now) ≡ false }
+    ensures run { take result.0 bytes.now ≡ raw_of (cut (ends_of until) (tokens is_form bytes.now)).0 }
+    ensures stop { tokens is_form (drop result.0 bytes.now) ≡ (cut (ends_of until) (tokens is_form bytes.now)).1 }
+    ensures has_no_escape { IsTrue result.1 → has_escape (take result.0 bytes.now) ≡ false }
 {
     let mut at = 0;
-    let mut is_unmarked = true;
+    let mut has_no_escape = true;
     while at < bytes.len() {
         if until.is_inside(bytes[at]) {
             at += 1;
             continue;
         }
-        let (kind, len) = first_token(&bytes[at..], form);
+        let (kind, len) = first_token(&bytes[at..], is_form);
         if until.is_at(kind) {
             break;
         }
         at += len;
-        is_unmarked = false;
+        has_no_escape = false;
     }
-    (at, is_unmarked)
+    (at, has_no_escape)
 }
 
 /// A cursor over an input. A step is a byte that the cursor takes, or reaching the end. Methods that take no byte count no step, and
@@ -194,9 +195,9 @@ fn run_len(bytes: &[u8], form: bool, until: Until) -> (usize, bool)
 pub(crate) struct Cursor<'qs> {
     rest: &'qs [u8],
     ended: bool,
-    form: bool,
+    is_form: bool,
     /// Whether the last run or value is known to have no `+` and `%`.
-    is_unmarked: bool,
+    has_no_escape: bool,
     steps: Steps,
     /// The input from the current pair's first byte on.
     pair: &'qs [u8],
@@ -204,17 +205,17 @@ pub(crate) struct Cursor<'qs> {
 
 impl<'qs> Cursor<'qs> {
     /// Returns a cursor at the start of an input, with the steps of earlier calls.
-    pub fn new(input: &'qs [u8], form: bool, steps: Steps) -> Self
+    pub fn new(input: &'qs [u8], is_form: bool, steps: Steps) -> Self
         ensures rest { result.rest.now ≡ input.now }
-        ensures form { result.form ≡ form }
+        ensures is_form { result.is_form ≡ is_form }
         ensures steps { result.steps ≡ steps }
         ensures fresh { result.ended ≡ false }
     {
         Cursor {
             rest: input,
             ended: false,
-            form,
-            is_unmarked: false,
+            is_form,
+            has_no_escape: false,
             steps,
             pair: input,
         }
@@ -223,7 +224,7 @@ impl<'qs> Cursor<'qs> {
     /// Starts a pair at the current position.
     pub fn begin_pair(&mut self)
         ensures rest { self.new.rest.now ≡ self.old.rest.now }
-        ensures form { self.new.form ≡ self.old.form }
+        ensures is_form { self.new.is_form ≡ self.old.is_form }
         ensures ended { self.new.ended ≡ self.old.ended }
         ensures steps { self.new.steps ≡ self.old.steps }
     {
@@ -247,17 +248,17 @@ impl<'qs> Cursor<'qs> {
     }
 
     /// Returns whether the last run or value is known to have no `+` and `%`.
-    pub fn is_unmarked(&self) -> bool
-        ensures { result ≡ self.now.is_unmarked }
+    pub fn has_no_escape(&self) -> bool
+        ensures { result ≡ self.now.has_no_escape }
     {
-        self.is_unmarked
+        self.has_no_escape
     }
 
     /// Returns the current position.
-    pub fn place(&self) -> Place<'qs>
+    pub fn position(&self) -> Position<'qs>
         ensures { result.rest.now ≡ self.now.rest.now }
     {
-        Place { rest: self.rest }
+        Position { rest: self.rest }
     }
 
     /// Returns how many steps remain: one for each remaining byte, and one for the end unless it was reached.
@@ -268,12 +269,12 @@ impl<'qs> Cursor<'qs> {
     }
 
     /// Returns the bytes that were taken since a position.
-    pub fn since(&self, place: Place<'qs>) -> &'qs [u8]
-        requires { length self.now.rest.now ≤ length place.rest.now }
-        ensures { result.now ≡ taken place.entry.rest.now self.now.rest.now }
+    pub fn since(&self, position: Position<'qs>) -> &'qs [u8]
+        requires { length self.now.rest.now ≤ length position.rest.now }
+        ensures { result.now ≡ taken position.entry.rest.now self.now.rest.now }
     {
-        let len = place.rest.len() - self.rest.len();
-        &place.rest[..len]
+        let len = position.rest.len() - self.rest.len();
+        &position.rest[..len]
     }
 
     /// Takes the next token, or reaches the end.
@@ -281,25 +282,29 @@ impl<'qs> Cursor<'qs> {
     pub fn next(&mut self) -> Option<Token<'qs>>
         ensures token { left self.old ≡ from_token result (left self.new) }
         ensures bytes { self.old.rest.now ≡ raw_from_token result self.new.rest.now }
-        ensures place { IfSome result (λ t. t.place.rest.now ≡ self.old.rest.now) }
+        ensures position { IfSome result (λ t. t.position.rest.now ≡ self.old.rest.now) }
         ensures end { IfNone result (self.new.rest.now ≡ []) }
         ensures shorter { IfSome result (λ _. length self.new.rest.now < length self.old.rest.now) }
-        ensures form { self.new.form ≡ self.old.form }
+        ensures is_form { self.new.is_form ≡ self.old.is_form }
         ensures cost { spent self.new ≡ spent self.old + looks result }
         ensures ended { self.new.ended ≡ ended_after result self.old.ended }
-        ensures is_unmarked { self.new.is_unmarked ≡ self.old.is_unmarked }
+        ensures has_no_escape { self.new.has_no_escape ≡ self.old.has_no_escape }
     {
         if self.rest.is_empty() {
             self.ended = true;
             self.steps.add(1);
             return None;
         }
-        let place = self.place();
-        let (kind, len) = first_token(self.rest, self.form);
+        let position = self.position();
+        let (kind, len) = first_token(self.rest, self.is_form);
         let (raw, rest) = self.rest.split_at(len);
         self.rest = rest;
         self.steps.add(len);
-        Some(Token { kind, raw, place })
+        Some(Token {
+            kind,
+            raw,
+            position,
+        })
     }
 
     /// Takes a run and the token that ends it, or everything up to the end. Returns the bytes of the run, and that token.
@@ -309,41 +314,45 @@ impl<'qs> Cursor<'qs> {
         ensures token { (cut (ends_of until) (left self.old)).1 ≡ from_token result.1 (left self.new) }
         ensures bytes { self.old.rest.now ≡ result.0.now ++ raw_from_token result.1 self.new.rest.now }
         ensures kind { IfSome result.1 (λ t. ends_of until (kind_of_token t.kind) ≡ true) }
-        ensures place { IfSome result.1 (λ t. t.place.rest.now ≡ t.raw.now ++ self.new.rest.now) }
+        ensures position { IfSome result.1 (λ t. t.position.rest.now ≡ t.raw.now ++ self.new.rest.now) }
         ensures end { IfNone result.1 (self.new.rest.now ≡ []) }
         ensures shorter { IfSome result.1 (λ _. length self.new.rest.now < length self.old.rest.now) }
         ensures cost { spent self.new ≡ spent self.old + looks result.1 }
         ensures ended { self.new.ended ≡ ended_after result.1 self.old.ended }
         ensures fewer { length self.new.rest.now ≤ length self.old.rest.now }
-        ensures form { self.new.form ≡ self.old.form }
-        ensures is_unmarked { IsTrue self.new.is_unmarked → is_marked result.0.now ≡ false }
+        ensures is_form { self.new.is_form ≡ self.old.is_form }
+        ensures has_no_escape { IsTrue self.new.has_no_escape → has_escape result.0.now ≡ false }
     {
-        self.run_from(self.place(), until)
+        self.run_from(self.position(), until)
     }
 
     /// Takes a run as [`run`](Cursor::run) does, and returns the bytes from an earlier position on.
     #[inline(always)]
-    pub fn run_from(&mut self, place: Place<'qs>, until: Until) -> (&'qs [u8], Option<Token<'qs>>)
-        requires { IsLeft place.rest.now self.old.rest.now }
-        ensures run { result.0.now ≡ taken place.entry.rest.now self.old.rest.now ++ raw_of (cut (ends_of until) (left self.old)).0 }
+    pub fn run_from(
+        &mut self,
+        position: Position<'qs>,
+        until: Until,
+    ) -> (&'qs [u8], Option<Token<'qs>>)
+        requires { IsLeft position.rest.now self.old.rest.now }
+        ensures run { result.0.now ≡ taken position.entry.rest.now self.old.rest.now ++ raw_of (cut (ends_of until) (left self.old)).0 }
         ensures token { (cut (ends_of until) (left self.old)).1 ≡ from_token result.1 (left self.new) }
-        ensures bytes { place.entry.rest.now ≡ result.0.now ++ raw_from_token result.1 self.new.rest.now }
+        ensures bytes { position.entry.rest.now ≡ result.0.now ++ raw_from_token result.1 self.new.rest.now }
         ensures kind { IfSome result.1 (λ t. ends_of until (kind_of_token t.kind) ≡ true) }
-        ensures place { IfSome result.1 (λ t. t.place.rest.now ≡ t.raw.now ++ self.new.rest.now) }
+        ensures position { IfSome result.1 (λ t. t.position.rest.now ≡ t.raw.now ++ self.new.rest.now) }
         ensures end { IfNone result.1 (self.new.rest.now ≡ []) }
         ensures shorter { IfSome result.1 (λ _. length self.new.rest.now < length self.old.rest.now) }
         ensures cost { spent self.new ≡ spent self.old + looks result.1 }
         ensures ended { self.new.ended ≡ ended_after result.1 self.old.ended }
         ensures fewer { length self.new.rest.now ≤ length self.old.rest.now }
-        ensures form { self.new.form ≡ self.old.form }
-        ensures is_unmarked { IsTrue self.new.is_unmarked → is_marked (raw_of (cut (ends_of until) (left self.old)).0) ≡ false }
+        ensures is_form { self.new.is_form ≡ self.old.is_form }
+        ensures has_no_escape { IsTrue self.new.has_no_escape → has_escape (raw_of (cut (ends_of until) (left self.old)).0) ≡ false }
     {
-        let (len, is_unmarked) = run_len(self.rest, self.form, until);
-        self.is_unmarked = is_unmarked;
+        let (len, has_no_escape) = run_len(self.rest, self.is_form, until);
+        self.has_no_escape = has_no_escape;
         let (_, rest) = self.rest.split_at(len);
         self.rest = rest;
         self.steps.add(len);
-        let before = self.since(place);
+        let before = self.since(position);
         (before, self.next())
     }
 
@@ -351,13 +360,13 @@ impl<'qs> Cursor<'qs> {
     pub fn value(&mut self) -> &'qs [u8]
         ensures value { result.now ≡ raw_of (cut is_amp (left self.old)).0 }
         ensures past { IsPast (cut is_amp (left self.old)).1 self.new }
-        ensures is_unmarked { IsTrue (is_unescaped self.old.rest.now) → (is_marked result.now ≡ false) × (self.new.rest.now ≡ []) }
+        ensures has_no_escape { IsTrue (is_unescaped self.old.rest.now) → (has_escape result.now ≡ false) × (self.new.rest.now ≡ []) }
         ensures fewer { length self.new.rest.now ≤ length self.old.rest.now }
         ensures moves { self.old.ended ≡ false → GoesOn self.old self.new }
-        ensures noted { IsTrue self.new.is_unmarked → is_marked result.now ≡ false }
+        ensures noted { IsTrue self.new.has_no_escape → has_escape result.now ≡ false }
     {
-        let (end, is_unmarked) = find_value_end(self.rest);
-        self.is_unmarked = is_unmarked;
+        let (end, has_no_escape) = find_value_end(self.rest);
+        self.has_no_escape = has_no_escape;
         let (value, rest) = self.rest.split_at(end);
         self.rest = rest;
         self.steps.add(end);

@@ -27,17 +27,17 @@ pub(crate) enum Leaf<'qs> {
 #[derive(Clone, Copy, Debug)]
 pub(crate) enum Manner {
     /// Adds it to the existing leaves, for any other key.
-    Direct,
+    Assign,
     /// Pushes it onto a sequence, for a key that ends in `[]`.
     Push,
 }
 
 impl Manner {
     /// Returns whether the leaf isn't pushed.
-    pub fn is_direct(self) -> bool
+    pub fn is_assign(self) -> bool
         ensures { result ≡ not (is_push self) }
     {
-        matches!(self, Manner::Direct)
+        matches!(self, Manner::Assign)
     }
 }
 
@@ -54,7 +54,7 @@ impl<'qs> Pair<'qs> {
     pub fn new(alloc: Global) -> Self {
         Pair {
             path: Path::new(alloc),
-            manner: Manner::Direct,
+            manner: Manner::Assign,
             leaf: Leaf::NoValue,
         }
     }
@@ -68,13 +68,13 @@ impl<'qs> Pair<'qs> {
         self.path.key(level)
     }
 
-    /// Returns whether only one key of the path is left at a level, and the leaf is direct.
+    /// Returns whether only one key of the path is left at a level, and the leaf is assigned.
     pub fn is_leaf_below(&self, level: usize) -> bool
         requires { level < length self.now.path }
         ensures one { IsTrue result → length self.now.path ≡ level + 1 }
-        ensures direct { IsTrue result → is_push self.now.manner ≡ false }
+        ensures assigned { IsTrue result → is_push self.now.manner ≡ false }
     {
-        self.path.len() - level == 1 && self.manner.is_direct()
+        self.path.len() - level == 1 && self.manner.is_assign()
     }
 
     /// Removes the last key of the path, and returns it.

@@ -1,8 +1,8 @@
 //! Parsing one pair.
 
 ghost use Rattle.std.specs.Prelude.{◌≡◌, ◌++◌, ◌<◌, [], length, IfOk, IsOk, IsTrue, true, false};
-ghost use Rattle.qs_spec.specs.Grammar.{direct, pushed, longer, ends_last, ends_root};
-ghost use Rattle.qs_spec.specs.Escape.{is_marked};
+ghost use Rattle.qs_spec.specs.Grammar.{assigned, pushed, longer, ends_last, ends_root};
+ghost use Rattle.qs_spec.specs.Escape.{has_escape};
 ghost use Rattle.qs_spec.specs.Token.{raw_of};
 ghost use Rattle.qs_spec.specs.internal.Parsing.{cut, with_leaf, parsed_value, parsed_brackets};
 ghost use Rattle.qs_tree.specs.internal.scan.Pairs.{path_of};
@@ -10,9 +10,9 @@ ghost use Rattle.qs_tree.specs.internal.scan.Cursor.{ends_of, left, from_token, 
 ghost use Rattle.qs_tree.specs.internal.scan.Parser.{IsRootStop, IsClosing, Follows, FollowsStop, IsEnd, IsMore, ParsesItem, ParsesLeaf, ParsesPair, is_nothing, root_path, from_root};
 ghost use Rattle.qs_tree.specs.Parsing.{is_unescaped, AllocatesNothing};
 ghost use Rattle.qs_tree.specs.declared.scan.parser.ParseError.TheVariants.{OutOfMemory};
-ghost use Rattle.qs_tree.specs.internal.scan.Small.{IsEqualsStop, ParsesBare, ParsesSmall};
+ghost use Rattle.qs_tree.specs.internal.scan.Unallocated.{IsEqualsStop, ParsesRootValue, ParsesUnallocated};
 
-use crate::scan::cursor::{Cursor, Kind, Token, Until};
+use crate::scan::cursor::{Cursor, Token, TokenKind, Until};
 use crate::scan::pair::{Leaf, Manner, Pair};
 use crate::scan::path::Path;
 use crate::scan::raw::{parse_key, parse_leaf};
@@ -82,7 +82,7 @@ pub(crate) fn parse_item<'qs>(
     ensures end { IsEnd result → cursor.new.ended ≡ true }
     ensures shorter { IsMore result → length cursor.new.rest.now < length cursor.old.rest.now }
     ensures moves { GoesOn cursor.old cursor.new }
-    ensures small { AllocatesNothing cursor.old.rest.now → ParsesSmall result cursor.new pair.new }
+    ensures unallocated { AllocatesNothing cursor.old.rest.now → ParsesUnallocated result cursor.new pair.new }
 {
     if cursor.has_ended() {
         return Ok(Item::End);
@@ -133,17 +133,17 @@ fn parse_after_root<'qs>(
     requires root { IsRootStop stop }
     requires follows { FollowsStop stop cursor.old }
     requires empty { pair.old.path ≡ [] }
-    requires is_unmarked { IsTrue cursor.old.is_unmarked → is_marked key.now ≡ false }
+    requires has_no_escape { IsTrue cursor.old.has_no_escape → has_escape key.now ≡ false }
     ensures pair { ParsesPair (from_root max_depth key.now (from_token stop.entry (left cursor.old))) result cursor.new pair.new }
     ensures moves { GoesOn cursor.old cursor.new }
-    ensures bare { key.now ≡ [] → IsEqualsStop stop.entry → IsTrue (is_unescaped cursor.old.rest.now) → ParsesBare result cursor.new pair.new }
+    ensures root_value { key.now ≡ [] → IsEqualsStop stop.entry → IsTrue (is_unescaped cursor.old.rest.now) → ParsesRootValue result cursor.new pair.new }
 {
-    parse_root(alloc, key, cursor.is_unmarked(), &mut pair.path)?;
+    parse_root(alloc, key, cursor.has_no_escape(), &mut pair.path)?;
     match stop {
         Some(token) if token.kind.is_open() => {
             parse_brackets(alloc, cursor, max_depth, token, pair)
         }
-        _ => parse_direct(alloc, cursor, stop, pair),
+        _ => parse_assigned(alloc, cursor, stop, pair),
     }
 }
 
@@ -151,16 +151,16 @@ fn parse_after_root<'qs>(
 fn parse_root<'qs>(
     alloc: Global,
     key: &'qs [u8],
-    is_unmarked: bool,
+    has_no_escape: bool,
     path: &mut Path<'qs>,
 ) -> Result<(), AllocError>
     requires empty { path.old ≡ [] }
-    requires is_unmarked { IsTrue is_unmarked → is_marked key.now ≡ false }
+    requires has_no_escape { IsTrue has_no_escape → has_escape key.now ≡ false }
     ensures path { IfOk result (λ _. path_of path.new ≡ root_path key.now) }
     ensures empty { key.now ≡ [] → IsOk result × (path.new ≡ []) }
 {
     if !key.is_empty() {
-        path.push(parse_key(alloc, key, is_unmarked)?)?;
+        path.push(parse_key(alloc, key, has_no_escape)?)?;
     }
     Ok(())
 }
@@ -176,20 +176,20 @@ fn parse_value<'qs>(
     requires follows { FollowsStop stop cursor.old }
     ensures leaf { ParsesLeaf (parsed_value (from_token stop.entry (left cursor.old))) result cursor.new }
     ensures moves { GoesOn cursor.old cursor.new }
-    ensures is_unmarked { IsEqualsStop stop.entry → IsTrue (is_unescaped cursor.old.rest.now) → IsOk result × (cursor.new.rest.now ≡ []) }
+    ensures has_no_escape { IsEqualsStop stop.entry → IsTrue (is_unescaped cursor.old.rest.now) → IsOk result × (cursor.new.rest.now ≡ []) }
 {
     match stop {
         Some(token) if token.kind.is_equals() => {
             let raw = cursor.value();
-            parse_leaf(alloc, raw, cursor.is_unmarked())
+            parse_leaf(alloc, raw, cursor.has_no_escape())
         }
         _ => Ok(Leaf::NoValue),
     }
 }
 
-// Parses a direct pair after its path and the token that ends it.
+// Parses an assigned pair after its path and the token that ends it.
 #[inline(always)]
-fn parse_direct<'qs>(
+fn parse_assigned<'qs>(
     alloc: Global,
     cursor: &mut Cursor<'qs>,
     stop: Option<Token<'qs>>,
@@ -197,11 +197,11 @@ fn parse_direct<'qs>(
 ) -> Result<(), ParseError>
     requires closing { IsClosing stop }
     requires follows { FollowsStop stop cursor.old }
-    ensures pair { ParsesPair (with_leaf (direct (path_of pair.old.path)) (parsed_value (from_token stop.entry (left cursor.old)))) result cursor.new pair.new }
+    ensures pair { ParsesPair (with_leaf (assigned (path_of pair.old.path)) (parsed_value (from_token stop.entry (left cursor.old)))) result cursor.new pair.new }
     ensures moves { GoesOn cursor.old cursor.new }
-    ensures bare { pair.old.path ≡ [] → IsEqualsStop stop.entry → IsTrue (is_unescaped cursor.old.rest.now) → ParsesBare result cursor.new pair.new }
+    ensures root_value { pair.old.path ≡ [] → IsEqualsStop stop.entry → IsTrue (is_unescaped cursor.old.rest.now) → ParsesRootValue result cursor.new pair.new }
 {
-    pair.manner = Manner::Direct;
+    pair.manner = Manner::Assign;
     pair.leaf = parse_value(alloc, cursor, stop)?;
     Ok(())
 }
@@ -220,13 +220,13 @@ fn parse_push<'qs>(
     let error = match next {
         Some(
             Token {
-                kind: Kind::Open,
+                kind: TokenKind::Open,
                 ..
             },
         ) => SyntaxError::OpenAfterPush,
         Some(
             Token {
-                kind: Kind::Close | Kind::Other(_),
+                kind: TokenKind::Close | TokenKind::Other(_),
                 ..
             },
         ) => SyntaxError::AfterPush,
@@ -262,25 +262,27 @@ fn parse_brackets<'qs>(
         if room == 0 {
             return parse_last_key(alloc, cursor, bracket, pair);
         }
-        let (segment, stop) = cursor.run_from(first.place, Until::Close);
-        let is_unmarked = first.is_unmarked() && cursor.is_unmarked();
-        pair.path.push(parse_key(alloc, segment, is_unmarked)?)?;
+        let (segment, stop) = cursor.run_from(first.position, Until::Close);
+        let has_no_escape = first.has_no_escape() && cursor.has_no_escape();
+        pair.path.push(parse_key(alloc, segment, has_no_escape)?)?;
         let Some(_) = stop else {
             return Err(ParseError::Syntax(SyntaxError::EndInSegment));
         };
         let next = cursor.next();
         let Some(token) = next else {
-            return parse_direct(alloc, cursor, next, pair);
+            return parse_assigned(alloc, cursor, next, pair);
         };
         let character = match token.kind {
-            Kind::Open => {
+            TokenKind::Open => {
                 bracket = token;
                 room -= 1;
                 continue;
             }
-            Kind::Ampersand | Kind::Equals => return parse_direct(alloc, cursor, next, pair),
-            Kind::Close => ']',
-            Kind::Other(byte) => char::from(byte),
+            TokenKind::Ampersand | TokenKind::Equals => return parse_assigned(
+                alloc, cursor, next, pair,
+            ),
+            TokenKind::Close => ']',
+            TokenKind::Other(byte) => char::from(byte),
         };
         return Err(ParseError::Syntax(SyntaxError::AfterSegment(character)));
     }
@@ -294,12 +296,12 @@ fn parse_last_key<'qs>(
     pair: &mut Pair<'qs>,
 ) -> Result<(), ParseError>
     requires end { cursor.old.ended ≡ false }
-    requires follows { IsLeft bracket.place.rest.now cursor.old.rest.now }
-    ensures pair { let run = cut ends_last (left cursor.old) in let key = taken bracket.entry.place.rest.now cursor.old.rest.now ++ raw_of run.0 in
-        ParsesPair (with_leaf (direct (longer (path_of pair.old.path) key)) (parsed_value run.1)) result cursor.new pair.new }
+    requires follows { IsLeft bracket.position.rest.now cursor.old.rest.now }
+    ensures pair { let run = cut ends_last (left cursor.old) in let key = taken bracket.entry.position.rest.now cursor.old.rest.now ++ raw_of run.0 in
+        ParsesPair (with_leaf (assigned (longer (path_of pair.old.path) key)) (parsed_value run.1)) result cursor.new pair.new }
     ensures moves { GoesOn cursor.old cursor.new }
 {
-    let (key, stop) = cursor.run_from(bracket.place, Until::Separator);
+    let (key, stop) = cursor.run_from(bracket.position, Until::Separator);
     pair.path.push(parse_key(alloc, key, false)?)?;
-    parse_direct(alloc, cursor, stop, pair)
+    parse_assigned(alloc, cursor, stop, pair)
 }

@@ -1,10 +1,10 @@
 //! From raw bytes to keys and leaves.
 
 ghost use Rattle.std.specs.Prelude.{◌≡◌, false, IfOk, IsOk, IsTrue};
-ghost use Rattle.qs_spec.specs.Escape.{is_marked};
-ghost use Rattle.qs_spec.specs.Segment.{marked_segment_of};
+ghost use Rattle.qs_spec.specs.Escape.{has_escape};
+ghost use Rattle.qs_spec.specs.Segment.{parsed_segment_of};
 ghost use Rattle.qs_spec.specs.Leaf.{value_leaf};
-ghost use Rattle.qs_tree.specs.tree.Views.{marked_segment_of_key};
+ghost use Rattle.qs_tree.specs.tree.Views.{parsed_segment_of_key};
 ghost use Rattle.qs_tree.specs.internal.scan.Pairs.{leaf_of};
 ghost use Rattle.qs_tree.specs.internal.scan.Raw.{index_from, index_of};
 
@@ -17,36 +17,40 @@ use std::alloc::{AllocError, Global};
 /// string key with the decoded bytes otherwise.
 ///
 /// Returns an error only if an allocation failed. Borrows a string without `+` and `%`. Doesn't look for them if it is known that
-/// there are none (`is_unmarked`).
+/// there are none (`has_no_escape`).
 #[inline(always)]
 #[tactic(auto, using(crate::proofs::lemmas::scan::Indexes::string_key))]
-pub(crate) fn parse_key(alloc: Global, raw: &[u8], is_unmarked: bool) -> Result<Key<'_>, AllocError>
-    requires { IsTrue is_unmarked → is_marked raw.now ≡ false }
-    ensures key { IfOk result (λ key. marked_segment_of_key key ≡ marked_segment_of raw.now) }
+pub(crate) fn parse_key(
+    alloc: Global,
+    raw: &[u8],
+    has_no_escape: bool,
+) -> Result<Key<'_>, AllocError>
+    requires { IsTrue has_no_escape → has_escape raw.now ≡ false }
+    ensures key { IfOk result (λ key. parsed_segment_of_key key ≡ parsed_segment_of raw.now) }
 {
     match parse_index(raw) {
         Some(index) => Ok(Key::Int(index)),
-        None => Ok(Key::String(unescape_unless(is_unmarked, alloc, raw)?)),
+        None => Ok(Key::String(unescape_unless(has_no_escape, alloc, raw)?)),
     }
 }
 
 /// Returns the leaf of a value with these raw bytes.
 ///
 /// Returns an error only if an allocation failed. Borrows a value without `+` and `%`. Doesn't look for them if it is known that
-/// there are none (`is_unmarked`).
+/// there are none (`has_no_escape`).
 pub(crate) fn parse_leaf(
     alloc: Global,
     raw: &[u8],
-    is_unmarked: bool,
+    has_no_escape: bool,
 ) -> Result<Leaf<'_>, AllocError>
-    requires { IsTrue is_unmarked → is_marked raw.now ≡ false }
+    requires { IsTrue has_no_escape → has_escape raw.now ≡ false }
     ensures leaf { IfOk result (λ leaf. leaf_of leaf ≡ value_leaf raw.now) }
-    ensures no_allocation { is_marked raw.now ≡ false → IsOk result }
+    ensures no_allocation { has_escape raw.now ≡ false → IsOk result }
 {
     if raw.is_empty() {
         return Ok(Leaf::Null);
     }
-    Ok(Leaf::Text(unescape_unless(is_unmarked, alloc, raw)?))
+    Ok(Leaf::Text(unescape_unless(has_no_escape, alloc, raw)?))
 }
 
 // Returns the value of one or more digits if it fits in 32 bits, or `None`.

@@ -20,11 +20,11 @@ const MANY: usize = 1000;
 
 /// A sorted vector of entries with distinct keys. Contracts see the list of entries.
 #[derive(Debug, Drop)]
-pub(crate) struct Entries<K: Ord, V> {
+pub(crate) struct SortedEntries<K: Ord, V> {
     items: Vec<(K, V)>,
 }
 
-impl<K: Ord, V> Model for Entries<K, V> {
+impl<K: Ord, V> Model for SortedEntries<K, V> {
     ghost use Rattle.std.specs.Prelude.{List};
     ghost use Rattle.std.specs.Coded.{coded_list, coded×};
     ghost use Rattle.std.specs.List.Sorted.{IsStrictlySortedBy};
@@ -39,7 +39,7 @@ impl<K: Ord, V> Model for Entries<K, V> {
     ghost invariant = { λ a. IsStrictlySortedBy K.cmp (keys_of a.items.items) };
 }
 
-impl<K: Ord, V> Entries<K, V> {
+impl<K: Ord, V> SortedEntries<K, V> {
     ghost use Rattle.std.specs.Borrow.{sem};
     ghost use Rattle.qs_tree.specs.internal.tree.Lending.{LendsValue};
 
@@ -48,7 +48,7 @@ impl<K: Ord, V> Entries<K, V> {
     pub fn new(alloc: Global) -> Self
         ensures { result ≡ [] }
     {
-        Entries {
+        SortedEntries {
             items: Vec::new(alloc),
         }
     }
@@ -59,7 +59,7 @@ impl<K: Ord, V> Entries<K, V> {
         ensures { IfOk result (λ entries. entries ≡ []) }
     {
         let items = Vec::with_capacity(alloc, capacity)?;
-        Ok(Entries { items })
+        Ok(SortedEntries { items })
     }
 
     /// Returns the entries of a vector whose keys are sorted and distinct, or as `Err` any other vector.
@@ -68,7 +68,7 @@ impl<K: Ord, V> Entries<K, V> {
         ensures sorted { IfOk result (λ entries. IsStrictlySortedBy K.cmp (keys_of entries)) }
     {
         if items.is_sorted_by(|left, right| left.0.cmp(&right.0).is_lt()) {
-            Ok(Entries { items })
+            Ok(SortedEntries { items })
         } else {
             Err(items)
         }
@@ -99,7 +99,7 @@ impl<K: Ord, V> Entries<K, V> {
         ensures all { result.items ≡ self }
         ensures sorted { IsStrictlySortedBy K.cmp (keys_of self) }
     {
-        let Entries { items } = self;
+        let SortedEntries { items } = self;
         items
     }
 
@@ -150,14 +150,14 @@ impl<K: Ord, V> Entries<K, V> {
     }
 }
 
-impl<K: Ord + Drop, V: Drop> Entries<K, V> {
+impl<K: Ord + Drop, V: Drop> SortedEntries<K, V> {
     /// Returns a vector of one entry. Returns an error only if the allocation failed.
     #[inline(always)]
     #[tactic(auto, using(crate::proofs::lemmas::tree::Places::sorted_one))]
     pub fn of(alloc: Global, key: K, value: V) -> Result<Self, AllocError>
         ensures { IfOk result (λ entries. entries ≡ (key, value) ∷ []) }
     {
-        let mut entries = Entries::new(alloc);
+        let mut entries = SortedEntries::new(alloc);
         entries.push(key, value)?;
         Ok(entries)
     }

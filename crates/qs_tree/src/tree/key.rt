@@ -6,7 +6,7 @@ ghost use Rattle.std.specs.Cmp.{on_per, on_equiv, on_po, on_total, partial_equiv
 ghost use Rattle.qs_spec.proofs.Order.{segments_total};
 ghost use Rattle.std.specs.Fmt.{WritesOnOk};
 ghost use Rattle.std.specs.Str.Lossy.{utf8_lossy};
-ghost use Rattle.qs_tree.specs.tree.Views.{segment_of_key, marked_segment_of_key, displayed_key};
+ghost use Rattle.qs_tree.specs.tree.Views.{segment_of_key, parsed_segment_of_key, displayed_key};
 
 use crate::tree::byte_order::compare_bytes;
 use std::borrow::CowSlice;
@@ -83,7 +83,7 @@ impl<'a> Ord for Key<'a> {
 }
 
 impl<'a> From<&'a [u8]> for Key<'a> {
-    ghost from_gives = { λ bytes key. marked_segment_of_key key ≡ record { seg = Str bytes.now; mark = false } };
+    ghost from_gives = { λ bytes key. parsed_segment_of_key key ≡ record { segment = Str bytes.now; escaped = false } };
 
     fn from(bytes: &'a [u8]) -> Key<'a> {
         Key::String(CowSlice::Borrowed(bytes))
@@ -91,7 +91,7 @@ impl<'a> From<&'a [u8]> for Key<'a> {
 }
 
 impl<'a> From<&'a str> for Key<'a> {
-    ghost from_gives = { λ text key. marked_segment_of_key key ≡ record { seg = Str text.now; mark = false } };
+    ghost from_gives = { λ text key. parsed_segment_of_key key ≡ record { segment = Str text.now; escaped = false } };
 
     fn from(text: &'a str) -> Key<'a> {
         Key::String(CowSlice::Borrowed(text.as_bytes()))
@@ -99,7 +99,7 @@ impl<'a> From<&'a str> for Key<'a> {
 }
 
 impl<'a> From<u32> for Key<'a> {
-    ghost from_gives = { λ number key. marked_segment_of_key key ≡ record { seg = Int number; mark = false } };
+    ghost from_gives = { λ number key. parsed_segment_of_key key ≡ record { segment = Int number; escaped = false } };
 
     fn from(number: u32) -> Key<'a> {
         Key::Int(number)

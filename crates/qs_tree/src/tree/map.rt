@@ -13,11 +13,11 @@ ghost use Rattle.qs_tree.specs.tree.Ordered.{AreOrdered};
 ghost use Rattle.qs_tree.specs.internal.tree.Places.{IsHit, IsGap};
 ghost use Rattle.qs_tree.specs.tree.Lookup.{binary_digits};
 ghost use Rattle.qs_tree.specs.internal.build.Builder.{entries_held};
-ghost use Rattle.qs_tree.specs.tree.Views.{segment_of_key, key_mark, marked_segment_of_key, tree_of, entries_of_map, map_pairs, take_out};
+ghost use Rattle.qs_tree.specs.tree.Views.{segment_of_key, is_owned_key, parsed_segment_of_key, tree_of, entries_of_map, map_pairs, take_out};
 
 use crate::scan::cursor::Steps;
 use crate::tree::dropping::drop_tree;
-use crate::tree::entries::Entries;
+use crate::tree::entries::SortedEntries;
 use crate::tree::key::Key;
 use crate::tree::sameness::same_entries;
 use crate::tree::value::ParsedValue;
@@ -34,7 +34,7 @@ use std::cmp::Ordering;
 #[cycle(tree)]
 #[derive(Debug)]
 pub struct ParsedMap<'qs> {
-    pub(crate) map: Entries<Key<'qs>, ParsedValue<'qs>>,
+    pub(crate) map: SortedEntries<Key<'qs>, ParsedValue<'qs>>,
 }
 
 impl<'qs> ParsedMap<'qs> {
@@ -48,7 +48,7 @@ impl<'qs> ParsedMap<'qs> {
         ensures { entries_of_map result ≡ no_entries }
     {
         ParsedMap {
-            map: Entries::new(alloc),
+            map: SortedEntries::new(alloc),
         }
     }
 
@@ -59,10 +59,10 @@ impl<'qs> ParsedMap<'qs> {
         key: Key<'qs>,
         value: ParsedValue<'qs>,
     ) -> Result<Self, AllocError>
-        ensures { IfOk result (λ map. entries_of_map map ≡ entry (segment_of_key key.entry) (key_mark key.entry) (tree_of value.entry) no_entries) }
+        ensures { IfOk result (λ map. entries_of_map map ≡ entry (segment_of_key key.entry) (is_owned_key key.entry) (tree_of value.entry) no_entries) }
     {
         Ok(ParsedMap {
-            map: Entries::of(alloc, key, value)?,
+            map: SortedEntries::of(alloc, key, value)?,
         })
     }
 
@@ -128,7 +128,7 @@ impl<'qs> ParsedMap<'qs> {
     /// ```
     #[must_use]
     pub fn at(&self, at: usize) -> Option<(&Key<'qs>, &ParsedValue<'qs>)>
-        ensures value { option_map (λ p. (marked_segment_of_key p.0.now, tree_of p.1.now)) result ≡ slice_get (map_pairs self.now) at }
+        ensures value { option_map (λ p. (parsed_segment_of_key p.0.now, tree_of p.1.now)) result ≡ slice_get (map_pairs self.now) at }
         ensures ordered { AreOrdered (entries_of_map self.now) }
     {
         self.map.at(at)
@@ -159,7 +159,7 @@ impl<'qs> ParsedMap<'qs> {
     /// let first = map.pop_first(); // the entry of 0 in b=1&0=2
     /// ```
     pub fn pop_first(&mut self) -> Option<(Key<'qs>, ParsedValue<'qs>)>
-        ensures value { MatchOption result ((map_pairs self.old ≡ []) × (map_pairs self.new ≡ [])) (λ p. map_pairs self.old ≡ (marked_segment_of_key p.0, tree_of p.1) ∷ map_pairs self.new) }
+        ensures value { MatchOption result ((map_pairs self.old ≡ []) × (map_pairs self.new ≡ [])) (λ p. map_pairs self.old ≡ (parsed_segment_of_key p.0, tree_of p.1) ∷ map_pairs self.new) }
         ensures ordered { AreOrdered (entries_of_map self.old) }
     {
         if self.map.len() == 0 {
@@ -169,14 +169,14 @@ impl<'qs> ParsedMap<'qs> {
     }
 
     /// Returns the map with these entries.
-    pub(crate) fn from_entries(map: Entries<Key<'qs>, ParsedValue<'qs>>) -> Self
+    pub(crate) fn from_entries(map: SortedEntries<Key<'qs>, ParsedValue<'qs>>) -> Self
         ensures { entries_of_map result ≡ entries_held map.entry }
     {
         ParsedMap { map }
     }
 
     /// Returns the map's entries.
-    pub(crate) fn into_entries(self) -> Entries<Key<'qs>, ParsedValue<'qs>>
+    pub(crate) fn into_entries(self) -> SortedEntries<Key<'qs>, ParsedValue<'qs>>
         ensures { result ≡ self.entry.map }
     {
         let ParsedMap { map } = self;

@@ -3,7 +3,7 @@ ghost use Rattle.std.specs.Prelude.{◌≡◌, IsTrue, ◌↔◌};
 ghost use Rattle.std.specs.Cmp.{IsTotalOrder};
 ghost use Rattle.std.specs.declared.cmp.Ordering.TheVariants.{Equal};
 ghost use Rattle.qs_spec.specs.Segment.{compare_segments};
-ghost use Rattle.qs_spec.specs.Order.{unmarked};
+ghost use Rattle.qs_spec.specs.Order.{ignoring_escapes};
 ghost use Rattle.qs_tree.specs.declared.tree.key.Key.{Key};
 ghost use Rattle.qs_tree.specs.declared.tree.value.ParsedValue.{ParsedValue};
 ghost use Rattle.qs_tree.specs.tree.Keys.{key_cmp, key_eq, value_eq};
@@ -41,5 +41,5 @@ pub fn equality_of_keys()
 /// ```
 #[tactic(auto, using(crate::proofs::lemmas::tree::Equality::equal_values))]
 pub fn equality_of_values()
-    ensures { (a b : ParsedValue) → IsTrue (value_eq a b) ↔ unmarked (tree_of a) ≡ unmarked (tree_of b) }
+    ensures { (a b : ParsedValue) → IsTrue (value_eq a b) ↔ ignoring_escapes (tree_of a) ≡ ignoring_escapes (tree_of b) }
 {}

@@ -43,13 +43,13 @@ module _ {A V : Type 0} (in_range : A → Bool) (meaning : List ℕ → Option V
   joined_text (x ∷ xs) h =
       IsUtf8-append (printed x) (each_after (encode_utf8 delimiter) (map printed xs)) (All-head Back x xs h).piece.is_text (each_text xs (All-tail Back x xs h))
 
-  pub list_comes_back : (mode : Bool) (xs : List A) (e : Data) → is_plain mode (list_data in_range printed delimiter xs) ≡ true → Same (list_data in_range printed delimiter xs) e
+  pub list_comes_back : (is_form : Bool) (xs : List A) (e : Data) → is_plain is_form (list_data in_range printed delimiter xs) ≡ true → Same (list_data in_range printed delimiter xs) e
       → list_in meaning delimiter e ≡ Some (map value xs)
-  list_comes_back mode xs e h p =
-      back_where mode (list_all in_range xs) (text (joined delimiter (map printed xs))) e (list_in meaning delimiter e) (Some (map value xs)) (text_comes_back xs e) h p
+  list_comes_back is_form xs e h p =
+      back_where is_form (list_all in_range xs) (text (joined delimiter (map printed xs))) e (list_in meaning delimiter e) (Some (map value xs)) (text_comes_back xs e) h p
 
-  pub list_fits : (mode : Bool) (xs : List A) → is_plain mode (list_data in_range printed delimiter xs) ≡ true → fits Shape.text (list_data in_range printed delimiter xs) ≡ true
-  list_fits mode xs h =
+  pub list_fits : (is_form : Bool) (xs : List A) → is_plain is_form (list_data in_range printed delimiter xs) ≡ true → fits Shape.text (list_data in_range printed delimiter xs) ≡ true
+  list_fits is_form xs h =
       let t = joined delimiter (map printed xs) in
-      let valid = holds mode (list_all in_range xs) (text t) h in
+      let valid = holds is_form (list_all in_range xs) (text t) h in
       ap (fits Shape.text) (itself (list_all in_range xs) (text t) valid) ∙ is_utf8-from_IsUtf8 t (joined_text xs (each_back xs valid))

@@ -11,7 +11,7 @@ use Rattle.qs_spec.specs.Shape.{Shape, Field, Fields, one_field, fields_of, is_f
 use Rattle.serde_qs.specs.ComesBack.{ComesBack, DataFit, FieldsComeBack}
 use Rattle.serde_qs.specs.FieldTypes.{DatumComesBack, DatumFits, FieldsAreNamed, is_first_named}
 use Rattle.serde_qs.specs.Meaning.{both}
-use Rattle.serde_qs.specs.Records.{first_of, others_of, field_data, field_form, field_in}
+use Rattle.serde_qs.specs.Records.{first_of, others_of, field_data, field_shape, field_in}
 use Rattle.serde_qs.specs.internal.Booleans.{both_hold}
 use Rattle.serde_qs.specs.internal.Fitting.{member_parts}
 
@@ -26,11 +26,11 @@ pub later_named : (n : List ℕ) (s : Shape) (o : Bool) (fs : Fields) (ms : Memb
 later_named n s o fs no_members h = refl
 later_named n s o fs (one_member k d ms) h = ap (λ t. bytes_eq n k || t) h ∙ or_true (bytes_eq n k)
 
-pub field_named : {B : Type 0} (s : Shape) (optional : Bool) (form : List (List ℕ) → List Field) (written : List (List ℕ) → B → List Named) → FieldsAreNamed form written
-    → (names : List (List ℕ)) (o : Option Data) (b : B) → is_first_named (fields_of (field_form s optional form names)) (members_of (field_data o (λ ns. written ns b) names)) ≡ true
-field_named s optional form written named names None b =
-    later_named (first_of names) s optional (fields_of (form (others_of names))) (members_of (written (others_of names) b)) (named (others_of names) b)
-field_named s optional form written named names (Some x) b = itself_named (first_of names) (is_field_name (first_of names) (fields_of (form (others_of names))))
+pub field_named : {B : Type 0} (s : Shape) (optional : Bool) (shape : List (List ℕ) → List Field) (written : List (List ℕ) → B → List Named) → FieldsAreNamed shape written
+    → (names : List (List ℕ)) (o : Option Data) (b : B) → is_first_named (fields_of (field_shape s optional shape names)) (members_of (field_data o (λ ns. written ns b) names)) ≡ true
+field_named s optional shape written named names None b =
+    later_named (first_of names) s optional (fields_of (shape (others_of names))) (members_of (written (others_of names) b)) (named (others_of names) b)
+field_named s optional shape written named names (Some x) b = itself_named (first_of names) (is_field_name (first_of names) (fields_of (shape (others_of names))))
 
 -- a name that no field has is none of theirs
 pub other_field : (n k : List ℕ) (fs : Fields) → not (is_field_name n fs) ≡ true → is_field_name k fs ≡ true → bytes_eq k n ≡ false
@@ -48,32 +48,32 @@ absent_back m absent v is others names fs w _ _ free named more (SameMembers.mem
     ap (λ t. if t then both (m e) (others later ns) else both absent (others later (one_member k e ns))) (other_field (first_of names) k fs free named)
     ∙ ap₂ both is more
 
-pub field_back : {B V W : Type 0} (m : Data → Option V) (absent : Option V) (v : V) (mode : Bool) (o : Option Data) → DatumComesBack mode m absent v o
-    → (form : List (List ℕ) → List Field) (written : List (List ℕ) → B → List Named) (others : List (List ℕ) → Members → Option W) (rest : B → W)
-    → FieldsAreNamed form written → FieldsComeBack form written others rest → (s : Shape) (optional : Bool) (names : List (List ℕ)) (b : B) (ms : Members)
-    → field_names_differ (fields_of (field_form s optional form names)) ≡ true → are_plain_members mode (members_of (field_data o (λ ns. written ns b) names)) ≡ true
+pub field_back : {B V W : Type 0} (m : Data → Option V) (absent : Option V) (v : V) (is_form : Bool) (o : Option Data) → DatumComesBack is_form m absent v o
+    → (shape : List (List ℕ) → List Field) (written : List (List ℕ) → B → List Named) (others : List (List ℕ) → Members → Option W) (rest : B → W)
+    → FieldsAreNamed shape written → FieldsComeBack shape written others rest → (s : Shape) (optional : Bool) (names : List (List ℕ)) (b : B) (ms : Members)
+    → field_names_differ (fields_of (field_shape s optional shape names)) ≡ true → are_plain_members is_form (members_of (field_data o (λ ns. written ns b) names)) ≡ true
     → SameMembers (members_of (field_data o (λ ns. written ns b) names)) ms → field_in absent m others names ms ≡ Some (v, rest b)
-field_back m absent v mode None is form written others rest named more s optional names b ms k h p =
+field_back m absent v is_form None is shape written others rest named more s optional names b ms k h p =
     let later = others_of names in
-    let fs = fields_of (form later) in
+    let fs = fields_of (shape later) in
     let differ = both_hold (not (is_field_name (first_of names) fs)) (field_names_differ fs) k in
-    absent_back m absent v is others names fs (rest b) (members_of (written later b)) ms differ.0 (named later b) (more mode later b ms differ.1 h p) p
-field_back m absent v mode (Some x) back form written others rest named more s optional names b _ k h (SameMembers.members_more {name = n} {d} {e} {ms} {ns} p ps) =
+    absent_back m absent v is others names fs (rest b) (members_of (written later b)) ms differ.0 (named later b) (more is_form later b ms differ.1 h p) p
+field_back m absent v is_form (Some x) back shape written others rest named more s optional names b _ k h (SameMembers.members_more {name = n} {d} {e} {ms} {ns} p ps) =
     let later = others_of names in
-    let fs = fields_of (form later) in
+    let fs = fields_of (shape later) in
     let same_name : bytes_eq (first_of names) (first_of names) ≡ true = (bytes_eq-Decides (first_of names) (first_of names)).1 refl in
-    let parts = member_parts mode (first_of names) x (members_of (written later b)) h in
+    let parts = member_parts is_form (first_of names) x (members_of (written later b)) h in
     let differ = both_hold (not (is_field_name (first_of names) fs)) (field_names_differ fs) k in
     ap (λ t. if t then both (m e) (others later ns) else both absent (others later (one_member (first_of names) e ns))) same_name
-    ∙ ap₂ both (back e parts.0 p) (more mode later b ns differ.1 parts.1 ps)
+    ∙ ap₂ both (back e parts.0 p) (more is_form later b ns differ.1 parts.1 ps)
 
 -- a value that is left out if it is None
 
-pub some_fits : {A : Type 0} (datum : A → Data) (s : Shape) → DataFit datum s → (mode : Bool) (o : Option A) → DatumFits mode s true (option_map datum o)
-some_fits datum s fit mode None = refl
-some_fits datum s fit mode (Some x) = fit mode x
+pub some_fits : {A : Type 0} (datum : A → Data) (s : Shape) → DataFit datum s → (is_form : Bool) (o : Option A) → DatumFits is_form s true (option_map datum o)
+some_fits datum s fit is_form None = refl
+some_fits datum s fit is_form (Some x) = fit is_form x
 
 pub some_back : {A V : Type 0} (datum : A → Data) (m : Data → Option V) (value : A → V) → ComesBack datum m value
-    → (mode : Bool) (o : Option A) → DatumComesBack mode (λ e. option_map Some (m e)) (Some None) (option_map value o) (option_map datum o)
-some_back datum m value back mode None = refl
-some_back datum m value back mode (Some x) = λ e h p. ap (option_map Some) (back mode x e h p)
+    → (is_form : Bool) (o : Option A) → DatumComesBack is_form (λ e. option_map Some (m e)) (Some None) (option_map value o) (option_map datum o)
+some_back datum m value back is_form None = refl
+some_back datum m value back is_form (Some x) = λ e h p. ap (option_map Some) (back is_form x e h p)

@@ -91,13 +91,13 @@ over value [] f = f
 over value (x ∷ es) f = over value es (with_value (string_bytes x.0) (value x.1) f)
 
 pairs_back : {A V : Type 0} (datum : A → Data) (meaning : Data → Option V) (value : A → V) → ComesBack datum meaning value
-    → (mode : Bool) (es : StringPairs A) (qs : Pairs) (f : List ℕ → Option V) → are_plain_pairs mode (pairs_for datum es) ≡ true → KeysDiffer qs → SamePairs (pairs_for datum es) qs
+    → (is_form : Bool) (es : StringPairs A) (qs : Pairs) (f : List ℕ → Option V) → are_plain_pairs is_form (pairs_for datum es) ≡ true → KeysDiffer qs → SamePairs (pairs_for datum es) qs
     → pairs_onto meaning f qs ≡ Some (over value es f)
-pairs_back datum meaning value back mode [] _ f h n SamePairs.pairs_end = refl
-pairs_back datum meaning value back mode (x ∷ es) qs f h n (SamePairs.pairs_more {k} {d = c} {e} {ps} {rest} p w more) =
-    let parts = pair_parts mode (d.text (string_bytes x.0)) (datum x.1) (pairs_for datum es) h in
-    taken_onto meaning (string_bytes x.0) e (value x.1) (back mode x.1 e parts.0 p) w n f
-    ∙ pairs_back datum meaning value back mode es rest (with_value (string_bytes x.0) (value x.1) f) parts.1 (differ_left w n) more
+pairs_back datum meaning value back is_form [] _ f h n SamePairs.pairs_end = refl
+pairs_back datum meaning value back is_form (x ∷ es) qs f h n (SamePairs.pairs_more {k} {d = c} {e} {ps} {rest} p w more) =
+    let parts = pair_parts is_form (d.text (string_bytes x.0)) (datum x.1) (pairs_for datum es) h in
+    taken_onto meaning (string_bytes x.0) e (value x.1) (back is_form x.1 e parts.0 p) w n f
+    ∙ pairs_back datum meaning value back is_form es rest (with_value (string_bytes x.0) (value x.1) f) parts.1 (differ_left w n) more
 
 -- if keys differ, a look-up finds these values
 
@@ -143,9 +143,9 @@ over_is_found datum value (x ∷ es) n f t =
     ∙ ap (λ b. or_else (option_map value (cond b (Some x.1) (found t es))) (f t)) (same_test key t)
 
 pub mapping_back : {A V : Type 0} (datum : A → Data) (meaning : Data → Option V) (value : A → V) → ComesBack datum meaning value
-    → (mode : Bool) (m : BTreeMap (String Global) A) (e : Data) → is_plain mode (d.mapping (pairs_for datum m.entries)) ≡ true → Same (d.mapping (pairs_for datum m.entries)) e
+    → (is_form : Bool) (m : BTreeMap (String Global) A) (e : Data) → is_plain is_form (d.mapping (pairs_for datum m.entries)) ≡ true → Same (d.mapping (pairs_for datum m.entries)) e
     → mapping_in meaning e ≡ Some (values_by_text value m)
-mapping_back datum meaning value back mode m _ h (Same.mapping {ps} {qs} k l p) =
-    let plain = (both_hold (written_keys_differ (pairs_for datum m.entries)) (are_plain_pairs mode (pairs_for datum m.entries)) h).1 in
-    pairs_back datum meaning value back mode m.entries qs nowhere plain l p
+mapping_back datum meaning value back is_form m _ h (Same.mapping {ps} {qs} k l p) =
+    let plain = (both_hold (written_keys_differ (pairs_for datum m.entries)) (are_plain_pairs is_form (pairs_for datum m.entries)) h).1 in
+    pairs_back datum meaning value back is_form m.entries qs nowhere plain l p
     ∙ ap Some (fun_ext (λ t. over_is_found datum value m.entries k nowhere t ∙ or_none (option_map value (found t m.entries))))

@@ -9,5 +9,5 @@ use Rattle.serde_qs.specs.Maps.{with_value}
 -- values with the values of the entries, one after another, each at the text of its key
 abbrev pub entries_onto : {V : Type 0} → (Tree → Option V) → (List ℕ → Option V) → Entries → Option (List ℕ → Option V)
 entries_onto r f no_entries = Some f
-entries_onto r f (entry k mark t es) =
+entries_onto r f (entry k escaped t es) =
     cond (is_utf8 (segment_text k)) (option_and_then (λ v. entries_onto r (with_value (segment_text k) v f) es) (r t)) None

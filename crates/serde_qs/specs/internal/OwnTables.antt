@@ -63,11 +63,11 @@ module _ {A : Type 0} (t : Table A) (datum : A → Data) (same : (x : A) → t.d
 
   -- each value's own data fits, and the value comes back from it
 
-  pub own_fit : DataFit datum t.form
-  own_fit mode x h = ap (fits t.form) (sym (same x)) ∙ t.fit mode x (ap (is_plain mode) (same x) ∙ h)
+  pub own_fit : DataFit datum t.shape
+  own_fit is_form x h = ap (fits t.shape) (sym (same x)) ∙ t.fit is_form x (ap (is_plain is_form) (same x) ∙ h)
 
   pub own_back : ComesBack datum t.meaning t.value
-  own_back mode x e h p = t.comes_back mode x e (ap (is_plain mode) (same x) ∙ h) (subst (λ d. Same d e) (sym (same x)) p)
+  own_back is_form x e h p = t.comes_back is_form x e (ap (is_plain is_form) (same x) ∙ h) (subst (λ d. Same d e) (sym (same x)) p)
 
 module _ {A V : Type 0} (n : Numbers A) (value : A → V) (in_range : A → Bool) (printed : A → List ℕ) (meaning : List ℕ → Option V) (own : AreNumbersOf n value in_range printed meaning) where
   pub number_values : (xs : List A) → map n.value xs ≡ map own.kept (map value xs)

@@ -28,8 +28,8 @@ pub trait ConfigExt {
     /// let query: Query = Config::new().deserialize_bytes(alloc, b"name=Alice&age=24")?;
     /// ```
     fn deserialize_bytes<T: Deserialize>(self, alloc: Global, input: &[u8]) -> Result<T>
-        ensures exact { ReturnsValue T.table.value (settings self) T.table.form T.table.meaning input.now result }
-        ensures back { ReturnsWritten T.table.value (settings self) T.table.form T.table.meaning input.now result };
+        ensures exact { ReturnsValue T.table.value (settings self) T.table.shape T.table.meaning input.now result }
+        ensures back { ReturnsWritten T.table.value (settings self) T.table.shape T.table.meaning input.now result };
 
     /// Returns the value that is read from a querystring. It returns the same errors as [`from_str`](crate::from_str).
     ///
@@ -37,8 +37,8 @@ pub trait ConfigExt {
     /// let query: Query = Config::new().deserialize_str(alloc, "name=Alice&age=24")?;
     /// ```
     fn deserialize_str<T: Deserialize>(self, alloc: Global, input: &str) -> Result<T>
-        ensures exact { ReturnsValue T.table.value (settings self) T.table.form T.table.meaning input.now result }
-        ensures back { ReturnsWritten T.table.value (settings self) T.table.form T.table.meaning input.now result };
+        ensures exact { ReturnsValue T.table.value (settings self) T.table.shape T.table.meaning input.now result }
+        ensures back { ReturnsWritten T.table.value (settings self) T.table.shape T.table.meaning input.now result };
 
     /// Returns the querystring of a value. It returns the same errors as [`to_string`](crate::to_string).
     ///

@@ -36,7 +36,7 @@ pub fn read_explained<T: Deserialize>(
     config: Config,
     input: &[u8],
 ) -> result::Result<result::Result<T, Rejection>, AllocError>
-    ensures exact { ReturnsValue T.table.value config T.table.form T.table.meaning input.now (without_path result) }
+    ensures exact { ReturnsValue T.table.value config T.table.shape T.table.meaning input.now (without_path result) }
     ensures errors { OnlyRejects result }
 {
     let mut path = Path::new(alloc);
@@ -54,7 +54,7 @@ fn read_traced<T: Deserialize>(
     input: &[u8],
     path: &mut Path,
 ) -> Result<T>
-    ensures { ReturnsValue T.table.value config T.table.form T.table.meaning input.now result }
+    ensures { ReturnsValue T.table.value config T.table.shape T.table.meaning input.now result }
 {
     let tree = tree(alloc, config, input)?;
     read_root_traced(alloc, config, &tree, path)
@@ -67,7 +67,7 @@ fn read_root_traced<T: Deserialize>(
     tree: &ParsedValue<'_>,
     path: &mut Path,
 ) -> Result<T>
-    ensures { ReadsNode T.table.value T.table.form T.table.meaning (are_rejected config.duplicates) (tree_of tree.now) result }
+    ensures { ReadsNode T.table.value T.table.shape T.table.meaning (are_rejected config.duplicates) (tree_of tree.now) result }
 {
     let reader = Reader::new(alloc, config);
     match T::from_node(reader, tree) {

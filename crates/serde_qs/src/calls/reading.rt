@@ -21,8 +21,8 @@ use std::alloc::Global;
 ///
 /// Errors, allocation and time are the same as for [`from_str`].
 pub fn from_bytes<T: Deserialize>(alloc: Global, input: &[u8]) -> Result<T>
-    ensures exact { ReturnsValue T.table.value default T.table.form T.table.meaning input.now result }
-    ensures back { ReturnsWritten T.table.value default T.table.form T.table.meaning input.now result }
+    ensures exact { ReturnsValue T.table.value default T.table.shape T.table.meaning input.now result }
+    ensures back { ReturnsWritten T.table.value default T.table.shape T.table.meaning input.now result }
 {
     read_typed(alloc, Config::new(), input)
 }
@@ -45,23 +45,23 @@ pub fn from_bytes<T: Deserialize>(alloc: Global, input: &[u8]) -> Result<T>
 /// The first two are returned exactly in these cases, and there is no other error. It allocates for the tree and the value. The time
 /// grows with the input and the value.
 pub fn from_str<T: Deserialize>(alloc: Global, input: &str) -> Result<T>
-    ensures exact { ReturnsValue T.table.value default T.table.form T.table.meaning input.now result }
-    ensures back { ReturnsWritten T.table.value default T.table.form T.table.meaning input.now result }
+    ensures exact { ReturnsValue T.table.value default T.table.shape T.table.meaning input.now result }
+    ensures back { ReturnsWritten T.table.value default T.table.shape T.table.meaning input.now result }
 {
     read_typed(alloc, Config::new(), input.as_bytes())
 }
 
 /// Returns the value that is read from a querystring under a configuration.
 pub(crate) fn read_typed<T: Deserialize>(alloc: Global, config: Config, input: &[u8]) -> Result<T>
-    ensures exact { ReturnsValue T.table.value config T.table.form T.table.meaning input.now result }
-    ensures back { ReturnsWritten T.table.value config T.table.form T.table.meaning input.now result }
+    ensures exact { ReturnsValue T.table.value config T.table.shape T.table.meaning input.now result }
+    ensures back { ReturnsWritten T.table.value config T.table.shape T.table.meaning input.now result }
 {
     read_tree(alloc, config, input)
 }
 
 // Returns the value that is read from the tree of a querystring.
 fn read_tree<T: Deserialize>(alloc: Global, config: Config, input: &[u8]) -> Result<T>
-    ensures { ReturnsValue T.table.value config T.table.form T.table.meaning input.now result }
+    ensures { ReturnsValue T.table.value config T.table.shape T.table.meaning input.now result }
 {
     let tree = tree(alloc, config, input)?;
     read_root(alloc, config, &tree)
@@ -69,8 +69,8 @@ fn read_tree<T: Deserialize>(alloc: Global, config: Config, input: &[u8]) -> Res
 
 /// Returns the tree of a querystring, with the contract that a typed call needs.
 pub(super) fn tree<'qs>(alloc: Global, config: Config, input: &'qs [u8]) -> Result<ParsedValue<'qs>>
-    ensures tree { IfOk result (λ t. IsTree config.form config.max_depth input.now (tree_of t)) }
-    ensures no_tree { IsParse result → HasNoTree config.form config.max_depth input.now }
+    ensures tree { IfOk result (λ t. IsTree config.is_form config.max_depth input.now (tree_of t)) }
+    ensures no_tree { IsParse result → HasNoTree config.is_form config.max_depth input.now }
     ensures position { IfParse result (λ position. position ≤ length input.now + 1) }
     ensures errors { OnlyParseOrOutOfMemory result }
 {
@@ -79,7 +79,7 @@ pub(super) fn tree<'qs>(alloc: Global, config: Config, input: &'qs [u8]) -> Resu
 
 // Returns the value that is read from a tree under a configuration.
 fn read_root<T: Deserialize>(alloc: Global, config: Config, tree: &ParsedValue<'_>) -> Result<T>
-    ensures { ReadsNode T.table.value T.table.form T.table.meaning (are_rejected config.duplicates) (tree_of tree.now) result }
+    ensures { ReadsNode T.table.value T.table.shape T.table.meaning (are_rejected config.duplicates) (tree_of tree.now) result }
 {
     T::from_node(Reader::new(alloc, config), tree)
 }

@@ -2,7 +2,7 @@
 
 ghost use Rattle.qs_spec.specs.Data.{Data as Datum};
 ghost use Rattle.serde_qs.specs.PartTables.{defaulted};
-ghost use Rattle.serde_qs.specs.Typed.{Means};
+ghost use Rattle.serde_qs.specs.Typed.{GivesValue};
 
 use super::field_types::{FieldType, named};
 use crate::path::Path;
@@ -37,7 +37,7 @@ pub trait OrDefault: Deserialize {
     /// let page = u32::missing(alloc)?; // 0
     /// ```
     fn missing(alloc: Global) -> Result<Self>
-        ensures { Means Self.table.value result (Self.table.meaning default) };
+        ensures { GivesValue Self.table.value result (Self.table.meaning default) };
 }
 
 /// A field that takes a default if its key is missing: `(String, (Defaulted<u32>, ()))` for a string and a number, which is 0 by default.

@@ -8,7 +8,7 @@ ghost use Rattle.qs_data.specs.shape.Views.{field_of};
 ghost use Rattle.serde_qs.specs.FieldTypes.{absent, keyless};
 ghost use Rattle.serde_qs.specs.Nodes.{ReadsNode, missing_data};
 ghost use Rattle.serde_qs.specs.PartTables.{FieldTable, required};
-ghost use Rattle.serde_qs.specs.Typed.{Means};
+ghost use Rattle.serde_qs.specs.Typed.{GivesValue};
 
 use crate::path::Path;
 use crate::traits::{Deserialize, unexpected};
@@ -31,39 +31,39 @@ pub trait FieldType: Sized + Drop {
     /// Returns what is read for a field of this name. The one error is [`OutOfMemory`](qs_data::Error::OutOfMemory). It allocates for the
     /// name, which is copied, and the shape.
     fn field(alloc: Global, name: &str) -> Result<Field>
-        ensures exact { IfOk result (λ f. field_of f ≡ (name.now, table.form, is_some table.missing)) }
+        ensures exact { IfOk result (λ f. field_of f ≡ (name.now, table.shape, is_some table.missing)) }
         ensures errors { OnlyOutOfMemory result };
 
     /// Returns the field that data means. Errors, allocation and time are the same as for [`from_data`](Deserialize::from_data).
     fn of_data(alloc: Global, datum: Data) -> Result<Self>
-        ensures { Means table.value result (table.meaning (data_of datum)) };
+        ensures { GivesValue table.value result (table.meaning (data_of datum)) };
 
     /// Returns the field that is read from a node. Errors, allocation and time are the same as for [`from_node`](Deserialize::from_node).
     fn of_node(reader: Reader, node: &ParsedValue<'_>) -> Result<Self>
-        ensures { ReadsNode table.value table.form table.meaning reader.reject_duplicates (tree_of node.now) result };
+        ensures { ReadsNode table.value table.shape table.meaning reader.reject_duplicates (tree_of node.now) result };
 
     /// Returns the same field. If there is none, it puts the steps to the part that isn't read into the path, as
     /// [`from_traced`](Deserialize::from_traced) does.
     fn of_traced(reader: Reader, node: &ParsedValue<'_>, path: &mut Path) -> Result<Self>
-        ensures { ReadsNode table.value table.form table.meaning reader.reject_duplicates (tree_of node.now) result };
+        ensures { ReadsNode table.value table.shape table.meaning reader.reject_duplicates (tree_of node.now) result };
 
     /// Returns the field that isn't among the members of data. If it must be there, the error is [`Custom`](qs_data::Error::Custom); if an
     /// allocation failed, [`OutOfMemory`](qs_data::Error::OutOfMemory). It allocates for the message of the error, or as
     /// [`missing`](crate::OrDefault::missing) does.
     fn without_data(alloc: Global) -> Result<Self>
-        ensures { Means table.value result (absent table.missing) };
+        ensures { GivesValue table.value result (absent table.missing) };
 
     /// Returns the field of this name that has no key. If it must be there, the result is the one of
     /// [`from_missing`](Deserialize::from_missing), and otherwise the one of [`without_data`](FieldType::without_data). It allocates as
     /// these do.
     fn without_key(reader: Reader, name: &str) -> Result<Self>
-        ensures { Means table.value result (keyless table.meaning (missing_data table.form) table.missing) };
+        ensures { GivesValue table.value result (keyless table.meaning (missing_data table.shape) table.missing) };
 
     /// Returns the field that has no item among this many. If it must be there, the error is the one of
     /// [`missing_item`](Reader::missing_item). Otherwise the result is the one of [`without_data`](FieldType::without_data). It allocates
     /// as these do.
     fn without_item(reader: Reader, count: usize) -> Result<Self>
-        ensures { Means table.value result (absent table.missing) };
+        ensures { GivesValue table.value result (absent table.missing) };
 }
 
 impl<T: Deserialize + Drop> FieldType for T {
@@ -103,7 +103,7 @@ impl<T: Deserialize + Drop> FieldType for T {
 
 /// Returns a field with this name and the shape of a type.
 pub(crate) fn named<T: Deserialize>(alloc: Global, name: &str, optional: bool) -> Result<Field>
-    ensures exact { IfOk result (λ f. field_of f ≡ (name.now, T.table.form, optional)) }
+    ensures exact { IfOk result (λ f. field_of f ≡ (name.now, T.table.shape, optional)) }
     ensures errors { OnlyOutOfMemory result }
 {
     let shape = T::shape(alloc)?;

@@ -1,5 +1,7 @@
 //! The fields of a struct, as nested pairs.
 
+#![tactic(auto, unfolding(qs_spec::specs::internal::ReadFunction::reads))]
+
 ghost use Rattle.std.specs.Prelude.{◌≡◌, ◌++◌, map, IfOk, true};
 ghost use Rattle.qs_spec.specs.Shape.{field_names_differ, fields_of, is_field_name};
 ghost use Rattle.qs_tree.specs.Error.{OnlyOutOfMemory};
@@ -11,13 +13,13 @@ ghost use Rattle.qs_data.specs.shape.Views.{field_of};
 ghost use Rattle.serde_qs.specs.Nodes.{by_names, by_places};
 ghost use Rattle.serde_qs.specs.PartTables.{FieldsTable, field, no_fields};
 ghost use Rattle.serde_qs.specs.Records.{first_of, members_back, others_of, texts};
-ghost use Rattle.serde_qs.specs.Typed.{Means};
+ghost use Rattle.serde_qs.specs.Typed.{GivesValue};
 
 use super::field_types::FieldType;
 use super::{nodes, trace};
 use crate::path::Path;
 use crate::traits::unexpected;
-use qs_data::{Data, Entries, Field, Reader, Result};
+use qs_data::{Data, Field, NodeEntries, Reader, Result};
 use qs_tree::ParsedValue;
 use std::alloc::{AllocError, Global};
 
@@ -39,12 +41,12 @@ pub trait Fields: Sized + Drop {
 
     /// Returns whether one of the fields has this name. It doesn't allocate, and compares at most one name for each field.
     fn has(names: &[&'static str], name: &[u8]) -> bool
-        ensures { result ≡ is_field_name name.now (fields_of (table.form (texts names.now))) };
+        ensures { result ≡ is_field_name name.now (fields_of (table.shape (texts names.now))) };
 
     /// Returns these fields, followed in order by what is read for the fields of these names. The one error is
     /// [`OutOfMemory`](qs_data::Error::OutOfMemory). It allocates for the names, which are copied, and the shapes.
     fn push_fields(alloc: Global, names: &[&'static str], fields: Vec<Field>) -> Result<Vec<Field>>
-        ensures exact { IfOk result (λ all. map field_of all.items ≡ map field_of fields.items ++ table.form (texts names.now)) }
+        ensures exact { IfOk result (λ all. map field_of all.items ≡ map field_of fields.items ++ table.shape (texts names.now)) }
         ensures errors { OnlyOutOfMemory result };
 
     /// Returns the fields that members mean; the last member is the first field's. It returns the same errors as
@@ -54,19 +56,19 @@ pub trait Fields: Sized + Drop {
         names: &[&'static str],
         members: Vec<(String, Data)>,
     ) -> Result<Self>
-        ensures { Means table.value result (table.meaning (texts names.now) (members_back members.items)) };
+        ensures { GivesValue table.value result (table.meaning (texts names.now) (members_back members.items)) };
 
     /// Returns the fields that are read by their names, from keys with their values. It returns the same errors as
     /// [`from_node`](crate::Deserialize::from_node). It allocates as `from_node` of each field does, and looks up each name.
     fn from_entries(
         reader: Reader,
         names: &[&'static str],
-        entries: Entries<'_, '_>,
+        entries: NodeEntries<'_, '_>,
     ) -> Result<Self>
         requires fit { NumbersFit (entries_view entries) }
-        requires differ { field_names_differ (fields_of (table.form (texts names.now))) ≡ true }
+        requires differ { field_names_differ (fields_of (table.shape (texts names.now))) ≡ true }
         ensures { Gives table.value (entries_are_text (entries_view entries.entry)) result
-            (by_names reader.reject_duplicates (table.form (texts names.now)) (table.meaning (texts names.now)) (entries_view entries.entry)) };
+            (by_names reader.reject_duplicates (table.shape (texts names.now)) (table.meaning (texts names.now)) (entries_view entries.entry)) };
 
     /// Returns the fields that are read by their indices, from these items, which are the last of `count`. It returns the same errors as
     /// [`from_node`](crate::Deserialize::from_node). It allocates, and takes time, as `from_node` of each field does.
@@ -76,16 +78,16 @@ pub trait Fields: Sized + Drop {
         items: &[ParsedValue<'_>],
         count: usize,
     ) -> Result<Self>
-        requires { field_names_differ (fields_of (table.form (texts names.now))) ≡ true }
+        requires { field_names_differ (fields_of (table.shape (texts names.now))) ≡ true }
         ensures { Gives table.value (items_are_text (items_from (map tree_of items.now))) result
-            (by_places reader.reject_duplicates (table.form (texts names.now)) (table.meaning (texts names.now)) (items_from (map tree_of items.now))) };
+            (by_places reader.reject_duplicates (table.shape (texts names.now)) (table.meaning (texts names.now)) (items_from (map tree_of items.now))) };
 
     /// Puts the steps to the first field that isn't read by its name into the path, if there is one. The one error is that an allocation
     /// failed. It reads each field up to that one.
     fn trace(
         reader: Reader,
         names: &[&'static str],
-        entries: Entries<'_, '_>,
+        entries: NodeEntries<'_, '_>,
         path: &mut Path,
     ) -> Result<(), AllocError>
         requires { NumbersFit (entries_view entries) };
@@ -121,17 +123,15 @@ impl Fields for () {
         }
     }
 
-    #[tactic(auto, unfolding(qs_spec::specs::internal::ReadFunction::reads))]
     #[inline(always)]
     fn from_entries(
         _reader: Reader,
         _names: &[&'static str],
-        _entries: Entries<'_, '_>,
+        _entries: NodeEntries<'_, '_>,
     ) -> Result<()> {
         Ok(())
     }
 
-    #[tactic(auto, unfolding(qs_spec::specs::internal::ReadFunction::reads))]
     fn from_places(
         _reader: Reader,
         _names: &[&'static str],
@@ -144,7 +144,7 @@ impl Fields for () {
     fn trace(
         _reader: Reader,
         _names: &[&'static str],
-        _entries: Entries<'_, '_>,
+        _entries: NodeEntries<'_, '_>,
         _path: &mut Path,
     ) -> Result<(), AllocError> {
         Ok(())
@@ -198,7 +198,7 @@ impl<F: FieldType, R: Fields> Fields for (F, R) {
     fn from_entries(
         reader: Reader,
         names: &[&'static str],
-        entries: Entries<'_, '_>,
+        entries: NodeEntries<'_, '_>,
     ) -> Result<(F, R)> {
         let (name, rest) = split(names);
         let first = nodes::by_name(reader, name, entries)?;
@@ -222,7 +222,7 @@ impl<F: FieldType, R: Fields> Fields for (F, R) {
     fn trace(
         reader: Reader,
         names: &[&'static str],
-        entries: Entries<'_, '_>,
+        entries: NodeEntries<'_, '_>,
         path: &mut Path,
     ) -> Result<(), AllocError> {
         let (name, rest) = split(names);

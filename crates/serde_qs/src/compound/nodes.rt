@@ -1,5 +1,7 @@
 //! The fields of a struct, read from a node.
 
+#![tactic(auto, using(crate::proofs::Narrowed::of_reading))]
+
 ghost use Rattle.std.specs.Prelude.{◌≡◌, true, map};
 ghost use Rattle.qs_spec.specs.Node.{as_map, found};
 ghost use Rattle.qs_spec.specs.Shape.{field_names_differ, fields_of};
@@ -16,7 +18,7 @@ ghost use Rattle.serde_qs.specs.Records.{texts};
 
 use super::field_types::FieldType;
 use super::fields::Fields;
-use qs_data::{Entries, FieldNames, Found, ReadError, Reader, Result, UnknownKeys};
+use qs_data::{FieldNames, Found, NodeEntries, ReadError, Reader, Result, UnknownKeys};
 use qs_tree::ParsedValue;
 use std::marker::PhantomData;
 
@@ -30,13 +32,13 @@ pub(crate) fn fields_of_struct<F: Fields>(
     names: &[&'static str],
     node: &ParsedValue<'_>,
 ) -> Result<F, ReadError>
-    requires { field_names_differ (fields_of (F.table.form (texts names.now))) ≡ true }
+    requires { field_names_differ (fields_of (F.table.shape (texts names.now))) ≡ true }
     ensures { ReadGives F.table.value (is_text (tree_of node.now)) result
-        (members_read (unknown_of unknown) reader.reject_duplicates (F.table.form (texts names.now)) (F.table.meaning (texts names.now)) (tree_of node.now)) }
+        (members_read (unknown_of unknown) reader.reject_duplicates (F.table.shape (texts names.now)) (F.table.meaning (texts names.now)) (tree_of node.now)) }
 {
     let entries = match node {
-        ParsedValue::NoValue | ParsedValue::Null => Entries::Empty,
-        ParsedValue::Map(map) => Entries::Map(map),
+        ParsedValue::NoValue | ParsedValue::Null => NodeEntries::Empty,
+        ParsedValue::Map(map) => NodeEntries::Map(map),
         ParsedValue::Sequence(items) => {
             return ReadError::of_result(F::from_places(reader, names, items, items.len()));
         }
@@ -55,28 +57,27 @@ pub(crate) fn fields_of_variant<F: Fields>(
     names: &[&'static str],
     node: &ParsedValue<'_>,
 ) -> Result<F, ReadError>
-    requires { field_names_differ (fields_of (F.table.form (texts names.now))) ≡ true }
+    requires { field_names_differ (fields_of (F.table.shape (texts names.now))) ≡ true }
     ensures { ReadGives F.table.value (is_text (tree_of node.now)) result
-        (members_read (unknown_of unknown) reader.reject_duplicates (F.table.form (texts names.now)) (F.table.meaning (texts names.now)) (as_map (tree_of node.now))) }
+        (members_read (unknown_of unknown) reader.reject_duplicates (F.table.shape (texts names.now)) (F.table.meaning (texts names.now)) (as_map (tree_of node.now))) }
 {
     match node {
-        ParsedValue::String(_) => read_entries(reader, unknown, names, Entries::Leaf(node)),
+        ParsedValue::String(_) => read_entries(reader, unknown, names, NodeEntries::Leaf(node)),
         _ => fields_of_struct(reader, unknown, names, node),
     }
 }
 
 // Returns the fields that are read by their names. All keys must be UTF-8, and names of fields if other keys are rejected.
-#[tactic(auto, using(crate::proofs::Narrowed::of_reading))]
 #[inline(always)]
 fn read_entries<F: Fields>(
     reader: Reader,
     unknown: UnknownKeys,
     names: &[&'static str],
-    entries: Entries<'_, '_>,
+    entries: NodeEntries<'_, '_>,
 ) -> Result<F, ReadError>
-    requires { field_names_differ (fields_of (F.table.form (texts names.now))) ≡ true }
+    requires { field_names_differ (fields_of (F.table.shape (texts names.now))) ≡ true }
     ensures { ReadGives F.table.value (entries_are_text (entries_view entries.entry)) result
-        (names_read (unknown_of unknown) reader.reject_duplicates (F.table.form (texts names.now)) (F.table.meaning (texts names.now)) (entries_view entries.entry)) }
+        (names_read (unknown_of unknown) reader.reject_duplicates (F.table.shape (texts names.now)) (F.table.meaning (texts names.now)) (entries_view entries.entry)) }
 {
     let are_text = entries.keys_are_text();
     let fields = ReadError::of_result(F::from_entries(reader, names, entries))?;
@@ -102,7 +103,7 @@ struct NamesOf<'a, F> {
 }
 
 impl<F: Fields> FieldNames for NamesOf<'_, F> {
-    ghost fields = { λ known. fields_of (F.table.form (texts known.names.now)) };
+    ghost fields = { λ known. fields_of (F.table.shape (texts known.names.now)) };
 
     fn has(&self, name: &[u8]) -> bool {
         F::has(self.names, name)
@@ -110,16 +111,15 @@ impl<F: Fields> FieldNames for NamesOf<'_, F> {
 }
 
 /// Returns a field by its name.
-#[tactic(auto, using(crate::proofs::Narrowed::of_reading))]
 #[inline(always)]
 pub(crate) fn by_name<F: FieldType>(
     reader: Reader,
     name: &str,
-    entries: Entries<'_, '_>,
+    entries: NodeEntries<'_, '_>,
 ) -> Result<F, ReadError>
     requires { NumbersFit (entries_view entries) }
     ensures { ReadGives F.table.value (entries_are_text (entries_view entries.entry)) result
-        (value_found F.table.meaning (keyless F.table.meaning (missing_data F.table.form) F.table.missing) (reads reader.reject_duplicates F.table.form) (found name.now (entries_view entries.entry))) }
+        (value_found F.table.meaning (keyless F.table.meaning (missing_data F.table.shape) F.table.missing) (reads reader.reject_duplicates F.table.shape) (found name.now (entries_view entries.entry))) }
 {
     match entries.find(name) {
         Found::Missing => ReadError::of_result(F::without_key(reader, name)),
@@ -136,7 +136,7 @@ pub(crate) fn by_place<F: FieldType>(
     count: usize,
 ) -> Result<F>
     ensures { Gives F.table.value (items_are_text (items_from (map tree_of items.now))) result
-        (value_placed F.table.meaning (absent F.table.missing) (reads reader.reject_duplicates F.table.form) (items_from (map tree_of items.now))) }
+        (value_placed F.table.meaning (absent F.table.missing) (reads reader.reject_duplicates F.table.shape) (items_from (map tree_of items.now))) }
 {
     match items {
         [item, ..] => F::of_node(reader, item),

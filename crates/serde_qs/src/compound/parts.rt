@@ -1,5 +1,7 @@
 //! What a struct or an enum is made of.
 
+#![tactic(auto, unfolding(qs_spec::specs::internal::ReadFunction::reads))]
+
 ghost use Rattle.std.specs.Prelude.{◌≡◌, IfOk, true};
 ghost use Rattle.qs_tree.specs.Error.{OnlyOutOfMemory};
 ghost use Rattle.qs_data.specs.data.Views.{data_of};
@@ -10,9 +12,9 @@ ghost use Rattle.serde_qs.specs.Nodes.{ReadsNode};
 ghost use Rattle.serde_qs.specs.Sources.{ReadsSource};
 ghost use Rattle.serde_qs.specs.PartTables.{PartsTable, enum_parts, newtype_parts, tuple_parts};
 ghost use Rattle.serde_qs.specs.Records.{texts};
-ghost use Rattle.serde_qs.specs.Typed.{Means};
+ghost use Rattle.serde_qs.specs.Typed.{GivesValue};
 
-use super::items::Items;
+use super::items::TupleItems;
 use super::payloads::{Newtype, Tuple};
 use super::source::Source;
 use super::trace;
@@ -50,7 +52,7 @@ pub trait Parts: Sized {
     /// let shape = PointParts::shape(alloc, &["x", "y"])?; // Shape::Struct
     /// ```
     fn shape(alloc: Global, names: &[&'static str]) -> Result<Shape>
-        ensures exact { IfOk result (λ s. shape_of s ≡ table.form (texts names.now)) }
+        ensures exact { IfOk result (λ s. shape_of s ≡ table.shape (texts names.now)) }
         ensures errors { OnlyOutOfMemory result };
 
     /// Returns the parts that data means. It returns the same errors as [`from_data`](Deserialize::from_data) of the whole. It allocates,
@@ -60,7 +62,7 @@ pub trait Parts: Sized {
     /// let Struct((x, (y, ()))) = PointParts::from_data(alloc, NAMES, datum)?;
     /// ```
     fn from_data(alloc: Global, names: &[&'static str], datum: Data) -> Result<Self>
-        ensures { Means table.value result (table.meaning (texts names.now) (data_of datum)) };
+        ensures { GivesValue table.value result (table.meaning (texts names.now) (data_of datum)) };
 
     /// Returns the parts that are read from a node of a tree, without a shape or data in between. It returns the same errors as
     /// [`from_node`](Deserialize::from_node) of the whole. It allocates as `from_node` of each part does, and the time grows with the node.
@@ -69,8 +71,8 @@ pub trait Parts: Sized {
     /// let Struct((x, (y, ()))) = PointParts::from_node(reader, NAMES, node)?;
     /// ```
     fn from_node(reader: Reader, names: &[&'static str], node: &ParsedValue<'_>) -> Result<Self>
-        requires { is_distinct (table.form (texts names.now)) ≡ true }
-        ensures node { ReadsNode table.value (table.form (texts names.now)) (table.meaning (texts names.now)) reader.reject_duplicates (tree_of node.now) result };
+        requires { is_distinct (table.shape (texts names.now)) ≡ true }
+        ensures node { ReadsNode table.value (table.shape (texts names.now)) (table.meaning (texts names.now)) reader.reject_duplicates (tree_of node.now) result };
 
     /// Returns the same parts. If there are none, it puts the steps to the first part that isn't read into the path. It returns the same
     /// errors as [`from_traced`](Deserialize::from_traced) of the whole.
@@ -84,8 +86,8 @@ pub trait Parts: Sized {
         node: &ParsedValue<'_>,
         path: &mut Path,
     ) -> Result<Self>
-        requires { is_distinct (table.form (texts names.now)) ≡ true }
-        ensures node { ReadsNode table.value (table.form (texts names.now)) (table.meaning (texts names.now)) reader.reject_duplicates (tree_of node.now) result };
+        requires { is_distinct (table.shape (texts names.now)) ≡ true }
+        ensures node { ReadsNode table.value (table.shape (texts names.now)) (table.meaning (texts names.now)) reader.reject_duplicates (tree_of node.now) result };
 
     /// Returns the parts that are read from data or from a node. Errors, allocation and time are the same as for
     /// [`from_data`](Parts::from_data) or [`from_node`](Parts::from_node).
@@ -95,8 +97,8 @@ pub trait Parts: Sized {
     /// ```
     #[inline(always)]
     fn read(source: Source<'_, '_>, names: &[&'static str]) -> Result<Self>
-        requires { is_distinct (table.form (texts names.now)) ≡ true }
-        ensures source { ReadsSource table.value (table.form (texts names.now)) (table.meaning (texts names.now)) source.entry result }
+        requires { is_distinct (table.shape (texts names.now)) ≡ true }
+        ensures source { ReadsSource table.value (table.shape (texts names.now)) (table.meaning (texts names.now)) source.entry result }
     {
         let (reader, node) = match source {
             Source::Data(alloc, datum) => return Self::from_data(alloc, names, datum),
@@ -154,7 +156,6 @@ impl<T: Deserialize> Parts for Newtype<T> {
         }
     }
 
-    #[tactic(auto, unfolding(qs_spec::specs::internal::ReadFunction::reads))]
     fn from_node(
         reader: Reader,
         _names: &[&'static str],
@@ -163,7 +164,6 @@ impl<T: Deserialize> Parts for Newtype<T> {
         Ok(Newtype(T::from_node(reader, node)?))
     }
 
-    #[tactic(auto, unfolding(qs_spec::specs::internal::ReadFunction::reads))]
     fn from_traced(
         reader: Reader,
         _names: &[&'static str],
@@ -174,7 +174,7 @@ impl<T: Deserialize> Parts for Newtype<T> {
     }
 }
 
-impl<I: Items> Parts for Tuple<I> {
+impl<I: TupleItems> Parts for Tuple<I> {
     ghost table = { tuple_parts I.table };
 
     fn shape(alloc: Global, _names: &[&'static str]) -> Result<Shape> {

@@ -1,5 +1,7 @@
 //! What a variant of an enum holds.
 
+#![tactic(auto, using(crate::proofs::Levels::levels))]
+
 ghost use Rattle.std.specs.Prelude.{◌≡◌, ℕ, List, option_and_then, option_map, true, IfOk};
 ghost use Rattle.qs_spec.specs.Shape.{is_distinct_kind};
 ghost use Rattle.qs_tree.specs.Error.{OnlyOutOfMemory};
@@ -11,9 +13,9 @@ ghost use Rattle.qs_data.specs.shape.Views.{kind_of};
 ghost use Rattle.serde_qs.specs.Held.{kind_held};
 ghost use Rattle.serde_qs.specs.PartTables.{PayloadTable, newtype_payload, tuple_payload, unit_payload};
 ghost use Rattle.serde_qs.specs.Records.{texts};
-ghost use Rattle.serde_qs.specs.Typed.{Means};
+ghost use Rattle.serde_qs.specs.Typed.{GivesValue};
 
-use super::items::Items;
+use super::items::TupleItems;
 use crate::traits::{Deserialize, unexpected};
 use qs_data::{Data, Reader, Result, VariantKind};
 use qs_tree::ParsedValue;
@@ -53,13 +55,13 @@ pub trait Payload: Sized {
     /// Returns what is read for it. The one error is [`OutOfMemory`](qs_data::Error::OutOfMemory). It allocates for names, which are copied,
     /// and nested shapes.
     fn kind(alloc: Global, names: &[&'static str]) -> Result<VariantKind>
-        ensures exact { IfOk result (λ k. kind_of k ≡ table.form (texts names.now)) }
+        ensures exact { IfOk result (λ k. kind_of k ≡ table.shape (texts names.now)) }
         ensures errors { OnlyOutOfMemory result };
 
     /// Returns what data of such a variant means. It returns the same errors as [`from_data`](Deserialize::from_data). It allocates, and
     /// takes time, as `from_data` of each part does.
     fn from_data(alloc: Global, names: &[&'static str], datum: Data) -> Result<Self>
-        ensures { Means table.value result (table.meaning (texts names.now) (data_of datum)) };
+        ensures { GivesValue table.value result (table.meaning (texts names.now) (data_of datum)) };
 
     /// Returns what is read from the value that such a variant holds. If a string alone names the variant, it holds none. It returns the
     /// same errors as [`from_node`](Deserialize::from_node). It allocates, and takes time, as `from_node` of each part does.
@@ -68,9 +70,9 @@ pub trait Payload: Sized {
         names: &[&'static str],
         held: Option<&ParsedValue<'_>>,
     ) -> Result<Self>
-        requires { is_distinct_kind (table.form (texts names.now)) ≡ true }
+        requires { is_distinct_kind (table.shape (texts names.now)) ≡ true }
         ensures { let t = option_map (λ v. tree_of v.now) held.entry in (name : List ℕ) →
-            Gives table.value (held_is_text t) result (option_and_then (table.meaning (texts names.now)) (kind_held reader.reject_duplicates (table.form (texts names.now)) name t)) };
+            Gives table.value (held_is_text t) result (option_and_then (table.meaning (texts names.now)) (kind_held reader.reject_duplicates (table.shape (texts names.now)) name t)) };
 }
 
 impl Payload for () {
@@ -84,7 +86,6 @@ impl Payload for () {
         Ok(VariantKind::Unit)
     }
 
-    #[tactic(auto, using(crate::proofs::Levels::levels))]
     fn from_data(alloc: Global, _names: &[&'static str], datum: Data) -> Result<()> {
         match datum {
             Data::UnitVariant(_) => Ok(()),
@@ -112,7 +113,6 @@ impl<T: Deserialize> Payload for Newtype<T> {
         Ok(VariantKind::Newtype(Box::new(alloc, T::shape(alloc)?)?))
     }
 
-    #[tactic(auto, using(crate::proofs::Levels::levels))]
     fn from_data(alloc: Global, _names: &[&'static str], datum: Data) -> Result<Newtype<T>> {
         match datum {
             Data::NewtypeVariant(_, part) => Ok(Newtype(T::from_data(
@@ -133,7 +133,7 @@ impl<T: Deserialize> Payload for Newtype<T> {
     }
 }
 
-impl<I: Items> Payload for Tuple<I> {
+impl<I: TupleItems> Payload for Tuple<I> {
     ghost table = { tuple_payload I.table };
 
     fn skip<'a>(names: &'a [&'static str]) -> &'a [&'static str] {
@@ -144,7 +144,6 @@ impl<I: Items> Payload for Tuple<I> {
         Ok(VariantKind::Tuple(I::push_shapes(alloc, Vec::new(alloc))?))
     }
 
-    #[tactic(auto, using(crate::proofs::Levels::levels))]
     fn from_data(alloc: Global, _names: &[&'static str], datum: Data) -> Result<Tuple<I>> {
         let Data::TupleVariant(_, mut values) = datum else {
             return Err(unexpected(alloc, "a tuple variant"));

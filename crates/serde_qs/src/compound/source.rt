@@ -45,7 +45,7 @@ impl Source<'_, '_> {
     ///
     /// Errors, allocation and time are the same as for [`from_data`](Deserialize::from_data) or [`from_node`](Deserialize::from_node).
     pub fn value<T: Deserialize>(self) -> Result<T>
-        ensures { ReadsSource T.table.value T.table.form T.table.meaning self.entry result }
+        ensures { ReadsSource T.table.value T.table.shape T.table.meaning self.entry result }
     {
         match self {
             Source::Data(alloc, datum) => T::from_data(alloc, datum),

@@ -1,12 +1,14 @@
 //! Structs, and variants with named fields.
 
+#![tactic(auto, using(crate::proofs::Levels::levels))]
+
 ghost use Rattle.std.specs.Prelude.{◌≡◌};
 ghost use Rattle.qs_spec.specs.Shape.{UnknownKeys as Unknown};
 ghost use Rattle.qs_data.specs.data.Views.{data_of};
 ghost use Rattle.qs_data.specs.read.Keys.{unknown_of};
 ghost use Rattle.serde_qs.specs.PartTables.{fields_parts, fields_payload};
 ghost use Rattle.serde_qs.specs.Records.{struct_in, texts};
-ghost use Rattle.serde_qs.specs.Typed.{Means};
+ghost use Rattle.serde_qs.specs.Typed.{GivesValue};
 ghost use Rattle.serde_qs.specs.Variants.{struct_variant_in};
 
 use super::fields::Fields;
@@ -156,9 +158,8 @@ impl<S: HoldsFields> Payload for S {
 
 // Returns the fields that the data of a struct means.
 #[inline(never)]
-#[tactic(auto, using(crate::proofs::Levels::levels))]
 fn struct_fields<F: Fields>(alloc: Global, names: &[&'static str], datum: Data) -> Result<F>
-    ensures { Means F.table.value result (struct_in (F.table.meaning (texts names.now)) (data_of datum)) }
+    ensures { GivesValue F.table.value result (struct_in (F.table.meaning (texts names.now)) (data_of datum)) }
 {
     let Data::Struct(mut members) = datum else {
         return Err(unexpected(alloc, "a struct"));
@@ -168,9 +169,8 @@ fn struct_fields<F: Fields>(alloc: Global, names: &[&'static str], datum: Data) 
 }
 
 // Returns the fields that the data of a struct variant means.
-#[tactic(auto, using(crate::proofs::Levels::levels))]
 fn variant_fields<F: Fields>(alloc: Global, names: &[&'static str], datum: Data) -> Result<F>
-    ensures { Means F.table.value result (struct_variant_in (F.table.meaning (texts names.now)) (data_of datum)) }
+    ensures { GivesValue F.table.value result (struct_variant_in (F.table.meaning (texts names.now)) (data_of datum)) }
 {
     let Data::StructVariant(_, mut members) = datum else {
         return Err(unexpected(alloc, "a struct variant"));

@@ -4,10 +4,10 @@ ghost use Rattle.qs_data.specs.read.Keys.{NumbersFit, entries_view};
 
 use super::field_types::FieldType;
 use super::fields::Fields;
-use super::items::Items;
+use super::items::TupleItems;
 use crate::path::{Path, Step};
 use crate::traits::Deserialize;
-use qs_data::{Entries, Error, Found, Items as NodeItems, Reader, Result};
+use qs_data::{Error, Found, NodeEntries, NodeItems, Reader, Result};
 use qs_tree::ParsedValue;
 use std::alloc::{AllocError, Global};
 
@@ -19,8 +19,8 @@ pub(crate) fn trace_struct<F: Fields>(
     path: &mut Path,
 ) -> Result<(), AllocError> {
     let entries = match node {
-        ParsedValue::NoValue | ParsedValue::Null => Entries::Empty,
-        ParsedValue::Map(map) => Entries::Map(map),
+        ParsedValue::NoValue | ParsedValue::Null => NodeEntries::Empty,
+        ParsedValue::Map(map) => NodeEntries::Map(map),
         ParsedValue::String(_) | ParsedValue::Sequence(_) | ParsedValue::Uninitialized => {
             return Ok(());
         }
@@ -33,7 +33,7 @@ pub(crate) fn trace_struct<F: Fields>(
 pub(crate) fn is_unread<F: FieldType>(
     reader: Reader,
     name: &'static str,
-    entries: Entries<'_, '_>,
+    entries: NodeEntries<'_, '_>,
     path: &mut Path,
 ) -> Result<bool, AllocError>
     requires { NumbersFit (entries_view entries) }
@@ -65,7 +65,7 @@ pub(crate) fn trace_items<T: Deserialize + Drop>(
 }
 
 /// Puts the steps to the first item of a tuple that isn't read into the path.
-pub(crate) fn trace_tuple<I: Items>(
+pub(crate) fn trace_tuple<I: TupleItems>(
     reader: Reader,
     node: &ParsedValue<'_>,
     path: &mut Path,

@@ -16,7 +16,7 @@ ghost use Rattle.serde_qs.specs.Held.{variant_held};
 ghost use Rattle.serde_qs.specs.Nodes.{ReadsNode};
 ghost use Rattle.serde_qs.specs.PartTables.{VariantsTable, last_variant, one_variant};
 ghost use Rattle.serde_qs.specs.Records.{texts};
-ghost use Rattle.serde_qs.specs.Typed.{Means};
+ghost use Rattle.serde_qs.specs.Typed.{GivesValue};
 ghost use Rattle.serde_qs.specs.Variants.{name_in};
 
 use super::fields::split;
@@ -65,13 +65,13 @@ pub trait Variants: Sized {
         names: &[&'static str],
         variants: Vec<Variant>,
     ) -> Result<Vec<Variant>>
-        ensures exact { IfOk result (λ all. map variant_of all.items ≡ map variant_of variants.items ++ table.form (texts names.now)) }
+        ensures exact { IfOk result (λ all. map variant_of all.items ≡ map variant_of variants.items ++ table.shape (texts names.now)) }
         ensures errors { OnlyOutOfMemory result };
 
     /// Returns the variant that data means. It returns the same errors as [`from_data`](crate::Deserialize::from_data). It allocates as
     /// `from_data` of each part does, and compares at most one name for each variant.
     fn from_variant(alloc: Global, names: &[&'static str], datum: Data) -> Result<Self>
-        ensures { Means table.value result (table.meaning (texts names.now) (data_of datum)) };
+        ensures { GivesValue table.value result (table.meaning (texts names.now) (data_of datum)) };
 
     /// Returns the variant of a name, read from the value that it holds. If a string alone names it, it holds none. It returns the same
     /// errors as [`from_node`](crate::Deserialize::from_node). It allocates as `from_node` of each part does, and compares at most one name
@@ -82,10 +82,10 @@ pub trait Variants: Sized {
         name: &[u8],
         held: Option<&ParsedValue<'_>>,
     ) -> Result<Self>
-        requires { are_distinct_variants (variants_of (table.form (texts names.now))) ≡ true }
+        requires { are_distinct_variants (variants_of (table.shape (texts names.now))) ≡ true }
         ensures { let t = option_map (λ v. tree_of v.now) held.entry in
             Gives table.value (is_utf8 name.now && held_is_text t) result
-            (option_and_then (table.meaning (texts names.now)) (variant_held reader.reject_duplicates (variants_of (table.form (texts names.now))) name.now t)) };
+            (option_and_then (table.meaning (texts names.now)) (variant_held reader.reject_duplicates (variants_of (table.shape (texts names.now))) name.now t)) };
 }
 
 impl<V: Payload> Variants for Last<V> {
@@ -170,8 +170,8 @@ pub(crate) fn variant_of<V: Variants>(
     names: &[&'static str],
     node: &ParsedValue<'_>,
 ) -> Result<V>
-    requires { are_distinct_variants (variants_of (V.table.form (texts names.now))) ≡ true }
-    ensures { ReadsNode V.table.value (s.Shape.enumeration (variants_of (V.table.form (texts names.now)))) (V.table.meaning (texts names.now)) reader.reject_duplicates (tree_of node.now) result }
+    requires { are_distinct_variants (variants_of (V.table.shape (texts names.now))) ≡ true }
+    ensures { ReadsNode V.table.value (s.Shape.enumeration (variants_of (V.table.shape (texts names.now)))) (V.table.meaning (texts names.now)) reader.reject_duplicates (tree_of node.now) result }
 {
     match node {
         ParsedValue::String(name) => V::from_name(reader, names, name.as_slice(), None),
@@ -190,10 +190,10 @@ fn under_key<V: Variants>(
     key: &Key<'_>,
     held: &ParsedValue<'_>,
 ) -> Result<V>
-    requires { are_distinct_variants (variants_of (V.table.form (texts names.now))) ≡ true }
+    requires { are_distinct_variants (variants_of (V.table.shape (texts names.now))) ≡ true }
     ensures { let name = segment_text (segment_of_key key.now) in let t = tree_of held.now in
         Gives V.table.value (is_utf8 name && is_text t) result
-        (option_and_then (V.table.meaning (texts names.now)) (reads_variant reader.reject_duplicates (variants_of (V.table.form (texts names.now))) name t)) }
+        (option_and_then (V.table.meaning (texts names.now)) (reads_variant reader.reject_duplicates (variants_of (V.table.shape (texts names.now))) name t)) }
 {
     match key {
         Key::Int(number) => {

@@ -7,7 +7,7 @@ ghost use Rattle.qs_spec.specs.Data as d;
 ghost use Rattle.qs_tree.specs.Error.{OnlyOutOfMemory};
 ghost use Rattle.qs_data.specs.data.Views.{data_of};
 ghost use Rattle.serde_qs.specs.Items.{each_after, joined, list_in, listed_in};
-ghost use Rattle.serde_qs.specs.Typed.{Means};
+ghost use Rattle.serde_qs.specs.Typed.{GivesValue};
 
 use super::item::Item;
 use crate::traits::unexpected;
@@ -44,7 +44,7 @@ pub fn serialize<T: Item>(alloc: Global, list: &[T], delimiter: char) -> Result<
 /// The first is returned exactly in these cases, and there is no other error. It allocates for the list, and the time grows with the length
 /// of the text.
 pub fn deserialize<T: Item + Drop>(alloc: Global, datum: Data, delimiter: char) -> Result<Vec<T>>
-    ensures { Means (λ list. map T.value list.items) result (list_in T.meaning delimiter (data_of datum)) }
+    ensures { GivesValue (λ list. map T.value list.items) result (list_in T.meaning delimiter (data_of datum)) }
 {
     match datum {
         Data::Text(text) => listed(alloc, text.as_str(), delimiter),
@@ -83,7 +83,7 @@ fn append_each<T: Item>(list: &[T], delimiter: char, mut out: String) -> Result<
 
 // Returns the items of a text.
 fn listed<T: Item + Drop>(alloc: Global, text: &str, delimiter: char) -> Result<Vec<T>>
-    ensures { Means (λ list. map T.value list.items) result (listed_in T.meaning delimiter text.now) }
+    ensures { GivesValue (λ list. map T.value list.items) result (listed_in T.meaning delimiter text.now) }
 {
     let mut items = Vec::new(alloc);
     if text.is_empty() {

@@ -5,7 +5,7 @@ ghost use Rattle.qs_spec.specs.Entry.{boolean_text};
 ghost use Rattle.qs_tree.specs.Error.{OnlyOutOfMemory};
 ghost use Rattle.qs_data.specs.read.Errors.{IsCustomOrOutOfMemory};
 ghost use Rattle.serde_qs.specs.Items.{boolean_item};
-ghost use Rattle.serde_qs.specs.Typed.{Means};
+ghost use Rattle.serde_qs.specs.Typed.{GivesValue};
 
 use qs_data::{Error, Result};
 use std::alloc::Global;
@@ -55,7 +55,7 @@ pub trait Item: Sized {
     /// let item = <bool as Item>::parse(alloc, "true")?; // true; of "x" the error is: invalid item `x`
     /// ```
     fn parse(alloc: Global, text: &str) -> Result<Self>
-        ensures { Means value result (meaning text.now) };
+        ensures { GivesValue value result (meaning text.now) };
 }
 
 /// Returns the error for a text that isn't an item.

@@ -5,7 +5,7 @@ ghost use Rattle.qs_spec.specs.Data as d;
 ghost use Rattle.qs_tree.specs.Error.{OnlyOutOfMemory};
 ghost use Rattle.qs_data.specs.data.Views.{data_of};
 ghost use Rattle.serde_qs.specs.Items.{joined, list_in};
-ghost use Rattle.serde_qs.specs.Typed.{Means};
+ghost use Rattle.serde_qs.specs.Typed.{GivesValue};
 
 use super::generic_delimiter;
 use super::item::Item;
@@ -30,7 +30,7 @@ pub fn serialize<T: Item>(alloc: Global, list: &[T]) -> Result<Data>
 /// let list: Vec<u8> = deserialize(alloc, datum)?; // of the text 1|2|3: 1, 2, 3
 /// ```
 pub fn deserialize<T: Item + Drop>(alloc: Global, datum: Data) -> Result<Vec<T>>
-    ensures { Means (λ list. map T.value list.items) result (list_in T.meaning 124 (data_of datum)) }
+    ensures { GivesValue (λ list. map T.value list.items) result (list_in T.meaning 124 (data_of datum)) }
 {
     generic_delimiter::deserialize(alloc, datum, '|')
 }

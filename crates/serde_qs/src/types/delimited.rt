@@ -9,7 +9,7 @@ ghost use Rattle.serde_qs.specs.Items.{list_in};
 ghost use Rattle.serde_qs.specs.internal.NumberLists.{signed_items, unsigned_items};
 ghost use Rattle.serde_qs.specs.internal.OwnTables.{delimited_datum, themselves};
 ghost use Rattle.qs_data.specs.data.Views.{data_of};
-ghost use Rattle.serde_qs.specs.Typed.{Means};
+ghost use Rattle.serde_qs.specs.Typed.{GivesValue};
 ghost use Rattle.serde_qs.specs.Tables.{AreNumbersOf, Numbers, delimited_table, numbers_of};
 
 use crate::helpers::{Item, generic_delimiter};
@@ -140,7 +140,7 @@ impl<T: WholeNumber + Drop, D: Delimiter> Deserialize for Delimited<T, D> {
 
 // Returns the numbers in a text, in the words of their table.
 fn numbers_in<T: WholeNumber + Drop>(alloc: Global, datum: Data, delimiter: char) -> Result<Vec<T>>
-    ensures { Means (λ list. map T.numbers.value list.items) result (list_in T.numbers.meaning delimiter (data_of datum)) }
+    ensures { GivesValue (λ list. map T.numbers.value list.items) result (list_in T.numbers.meaning delimiter (data_of datum)) }
 {
     generic_delimiter::deserialize(alloc, datum, delimiter)
 }

@@ -10,7 +10,7 @@ ghost use Rattle.qs_data.specs.write.Parts.{WritesPart, elements_part};
 ghost use Rattle.qs_data.specs.read.Items.{are_text, items_view};
 ghost use Rattle.qs_spec.specs.internal.ReadFunction.{reads};
 ghost use Rattle.serde_qs.specs.internal.NodeParts.{each_value};
-ghost use Rattle.serde_qs.specs.Typed.{Means};
+ghost use Rattle.serde_qs.specs.Typed.{GivesValue};
 ghost use Rattle.serde_qs.specs.Meaning.{values_meant};
 ghost use Rattle.serde_qs.specs.internal.OwnTables.{sequence_datum};
 ghost use Rattle.serde_qs.specs.Tables.{sequence_table};
@@ -19,7 +19,7 @@ use crate::compound::trace::trace_items;
 use crate::parts::write_element;
 use crate::path::Path;
 use crate::traits::{Deserialize, RoundTrip, Serialize, unexpected};
-use qs_data::{Data, Items, Reader, Result, Shape, WriteResult, Writer};
+use qs_data::{Data, NodeItems, Reader, Result, Shape, WriteResult, Writer};
 use qs_tree::ParsedValue;
 use std::alloc::Global;
 
@@ -79,7 +79,7 @@ impl<T: Deserialize + Drop> Deserialize for Vec<T> {
 
 // Returns the values that this data means, in order.
 fn items_of<T: Deserialize + Drop>(alloc: Global, parts: Vec<Data>) -> Result<Vec<T>>
-    ensures { Means (λ (xs : Vec T Global). map T.table.value xs.items) result (values_meant T.table.meaning (values_in parts.items)) }
+    ensures { GivesValue (λ (xs : Vec T Global). map T.table.value xs.items) result (values_meant T.table.meaning (values_in parts.items)) }
 {
     let mut items = Vec::new(alloc);
     for part in parts {
@@ -89,9 +89,9 @@ fn items_of<T: Deserialize + Drop>(alloc: Global, parts: Vec<Data>) -> Result<Ve
 }
 
 // Returns the values that are read from these items, in order.
-fn values_of<T: Deserialize + Drop>(reader: Reader, items: Items<'_, '_>) -> Result<Vec<T>>
+fn values_of<T: Deserialize + Drop>(reader: Reader, items: NodeItems<'_, '_>) -> Result<Vec<T>>
     ensures { Gives (λ (xs : Vec T Global). map T.table.value xs.items) (are_text (items_view items.entry)) result
-        (each_value (λ node. option_and_then T.table.meaning (reads reader.reject_duplicates T.table.form node)) (items_view items.entry)) }
+        (each_value (λ node. option_and_then T.table.meaning (reads reader.reject_duplicates T.table.shape node)) (items_view items.entry)) }
 {
     let mut values = Vec::with_capacity(reader.alloc, items.len())?;
     for i in 0..items.len() {

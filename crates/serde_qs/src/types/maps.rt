@@ -1,5 +1,7 @@
 //! Maps whose keys are strings.
 
+#![tactic(auto, using(crate::proofs::PairsPut::empty))]
+
 ghost use Rattle.std.specs.Prelude.{map, option_and_then};
 ghost use Rattle.qs_spec.specs.Data as d;
 ghost use Rattle.qs_spec.specs.internal.ReadFunction.{reads};
@@ -9,7 +11,7 @@ ghost use Rattle.qs_data.specs.read.Keys.{entries_view};
 ghost use Rattle.qs_data.specs.read.TreeText.{entries_are_text};
 ghost use Rattle.qs_data.specs.write.Parts.{WritesPart, pairs_part};
 ghost use Rattle.serde_qs.specs.internal.NodeEntries.{entries_onto};
-ghost use Rattle.serde_qs.specs.Typed.{Means};
+ghost use Rattle.serde_qs.specs.Typed.{GivesValue};
 ghost use Rattle.serde_qs.specs.Maps.{entry_data, values_by_text, pair_onto, pairs_onto, nowhere};
 ghost use Rattle.serde_qs.specs.internal.OwnTables.{mapping_datum};
 ghost use Rattle.serde_qs.specs.Tables.{mapping_table};
@@ -18,7 +20,7 @@ use crate::compound::trace::trace_values;
 use crate::parts::write_under;
 use crate::path::Path;
 use crate::traits::{Deserialize, RoundTrip, Serialize, unexpected};
-use qs_data::{Data, Entries, KeyShape, Reader, Result, Scalar, Shape, WriteResult, Writer};
+use qs_data::{Data, KeyShape, NodeEntries, Reader, Result, Scalar, Shape, WriteResult, Writer};
 use qs_tree::ParsedValue;
 use std::alloc::Global;
 use std::collections::BTreeMap;
@@ -87,12 +89,11 @@ impl<T: RoundTrip + Drop> RoundTrip for BTreeMap<String, T> {
 }
 
 // Returns the map of these pairs. Of several with one key, the last counts.
-#[tactic(auto, using(crate::proofs::PairsPut::empty))]
 fn map_of<T: Deserialize + Drop>(
     alloc: Global,
     pairs: Vec<(Data, Data)>,
 ) -> Result<BTreeMap<String, T>>
-    ensures { Means (λ m. values_by_text T.table.value m) result (pairs_onto T.table.meaning nowhere (pairs_in pairs.items)) }
+    ensures { GivesValue (λ m. values_by_text T.table.value m) result (pairs_onto T.table.meaning nowhere (pairs_in pairs.items)) }
 {
     let mut values = BTreeMap::new(alloc);
     for (key, datum) in pairs {
@@ -108,7 +109,7 @@ fn with_pair<T: Deserialize + Drop>(
     key: Data,
     datum: Data,
 ) -> Result<BTreeMap<String, T>>
-    ensures { Means (λ m. values_by_text T.table.value m) result (pair_onto T.table.meaning (values_by_text T.table.value values) (data_of key) (data_of datum)) }
+    ensures { GivesValue (λ m. values_by_text T.table.value m) result (pair_onto T.table.meaning (values_by_text T.table.value values) (data_of key) (data_of datum)) }
 {
     match key {
         Data::Text(key) => {
@@ -121,13 +122,12 @@ fn with_pair<T: Deserialize + Drop>(
 }
 
 // Returns the map of these entries, each value read from its node. Of two with one key, the later counts.
-#[tactic(auto, using(crate::proofs::PairsPut::empty))]
 fn entries_of<T: Deserialize + Drop>(
     reader: Reader,
-    entries: Entries<'_, '_>,
+    entries: NodeEntries<'_, '_>,
 ) -> Result<BTreeMap<String, T>>
     ensures { Gives (λ m. values_by_text T.table.value m) (entries_are_text (entries_view entries.entry)) result
-        (entries_onto (λ node. option_and_then T.table.meaning (reads reader.reject_duplicates T.table.form node)) nowhere (entries_view entries.entry)) }
+        (entries_onto (λ node. option_and_then T.table.meaning (reads reader.reject_duplicates T.table.shape node)) nowhere (entries_view entries.entry)) }
 {
     let mut values = BTreeMap::new(reader.alloc);
     for i in 0..entries.len() {

@@ -1,5 +1,7 @@
 //! Values that may be absent.
 
+#![tactic(auto, unfolding(qs_spec::specs::internal::ReadFunction::reads))]
+
 ghost use Rattle.std.specs.Prelude.{Option};
 ghost use Rattle.serde_qs.specs.Meaning.{option_data};
 ghost use Rattle.serde_qs.specs.internal.OwnTables.{option_datum};
@@ -45,7 +47,6 @@ impl<T: Deserialize + Drop> Deserialize for Option<T> {
         }
     }
 
-    #[tactic(auto, unfolding(qs_spec::specs::internal::ReadFunction::reads))]
     fn from_node(reader: Reader, node: &ParsedValue<'_>) -> Result<Option<T>> {
         match node {
             ParsedValue::Uninitialized => Err(reader.nothing()),
@@ -57,7 +58,6 @@ impl<T: Deserialize + Drop> Deserialize for Option<T> {
         }
     }
 
-    #[tactic(auto, unfolding(qs_spec::specs::internal::ReadFunction::reads))]
     fn from_traced(reader: Reader, node: &ParsedValue<'_>, path: &mut Path) -> Result<Option<T>> {
         match node {
             ParsedValue::Uninitialized => Err(reader.nothing()),

@@ -1,5 +1,7 @@
 //! The unit, booleans, characters and strings.
 
+#![tactic(auto, unfolding(qs_spec::specs::internal::ReadFunction::reads))]
+
 ghost use Rattle.std.specs.Prelude.{Bool, refl, string_bytes};
 ghost use Rattle.qs_spec.specs.Data as d;
 ghost use Rattle.qs_spec.specs.Fits.{is_scalar};
@@ -42,7 +44,6 @@ impl Deserialize for () {
         }
     }
 
-    #[tactic(auto, unfolding(qs_spec::specs::internal::ReadFunction::reads))]
     fn from_node(reader: Reader, node: &ParsedValue<'_>) -> Result<()> {
         Self::from_data(reader.alloc, reader.unit(node)?)
     }
@@ -79,7 +80,6 @@ impl Deserialize for bool {
         }
     }
 
-    #[tactic(auto, unfolding(qs_spec::specs::internal::ReadFunction::reads))]
     fn from_node(reader: Reader, node: &ParsedValue<'_>) -> Result<bool> {
         Self::from_data(reader.alloc, reader.boolean(node)?)
     }
@@ -115,7 +115,6 @@ impl Deserialize for char {
         }
     }
 
-    #[tactic(auto, unfolding(qs_spec::specs::internal::ReadFunction::reads))]
     fn from_node(reader: Reader, node: &ParsedValue<'_>) -> Result<char> {
         Self::from_data(reader.alloc, reader.character(node)?)
     }
@@ -153,7 +152,6 @@ impl Deserialize for String {
         }
     }
 
-    #[tactic(auto, unfolding(qs_spec::specs::internal::ReadFunction::reads))]
     #[inline(always)]
     fn from_node(reader: Reader, node: &ParsedValue<'_>) -> Result<String> {
         Self::from_data(reader.alloc, reader.text(node)?)

@@ -1,5 +1,7 @@
 //! Signed numbers of 8 to 64 bits.
 
+#![tactic(auto, unfolding(qs_spec::specs::internal::ReadFunction::reads))]
+
 ghost use Rattle.std.specs.Prelude.{◌≡◌, ◌-◌, ◌^◌, ◌≤ℤ◌, ℤ, pos, neg_ℤ, IfOk, refl};
 ghost use Rattle.qs_spec.specs.Data as d;
 ghost use Rattle.qs_spec.specs.Shape as s;
@@ -11,7 +13,7 @@ ghost use Rattle.serde_qs.specs.internal.ComesBack.{signed_back};
 ghost use Rattle.serde_qs.specs.internal.Ranges.{signed_within};
 ghost use Rattle.serde_qs.specs.Meaning.{signed_between, signed_in};
 ghost use Rattle.serde_qs.specs.Tables.{table_of};
-ghost use Rattle.serde_qs.specs.Typed.{Means};
+ghost use Rattle.serde_qs.specs.Typed.{GivesValue};
 
 use crate::traits::{Deserialize, RoundTrip, Serialize, unexpected};
 use qs_data::{Data, Reader, Result, Scalar, Shape, Width, WriteResult, Writer};
@@ -21,7 +23,7 @@ use std::alloc::Global;
 // Returns the number that this data means, if it is from `least` to `most`.
 #[inline(always)]
 fn signed(alloc: Global, datum: Data, least: i64, most: i64, expected: &'static str) -> Result<i64>
-    ensures exact { Means (λ (z : ℤ). z) result (signed_between least most (data_of datum)) }
+    ensures exact { GivesValue (λ (z : ℤ). z) result (signed_between least most (data_of datum)) }
     ensures bound { IfOk result (λ z. (least ≤ℤ z) × (z ≤ℤ most)) }
 {
     let Data::Signed(n) = datum else {
@@ -76,7 +78,6 @@ impl Deserialize for i8 {
         Ok(signed(alloc, datum, -128, 127, "i8")? as i8)
     }
 
-    #[tactic(auto, unfolding(qs_spec::specs::internal::ReadFunction::reads))]
     #[inline(always)]
     fn from_node(reader: Reader, node: &ParsedValue<'_>) -> Result<i8> {
         Self::from_data(reader.alloc, reader.signed(Width::Bits8, node)?)
@@ -111,7 +112,6 @@ impl Deserialize for i16 {
         Ok(signed(alloc, datum, -32768, 32767, "i16")? as i16)
     }
 
-    #[tactic(auto, unfolding(qs_spec::specs::internal::ReadFunction::reads))]
     #[inline(always)]
     fn from_node(reader: Reader, node: &ParsedValue<'_>) -> Result<i16> {
         Self::from_data(reader.alloc, reader.signed(Width::Bits16, node)?)
@@ -146,7 +146,6 @@ impl Deserialize for i32 {
         Ok(signed(alloc, datum, -2147483648, 2147483647, "i32")? as i32)
     }
 
-    #[tactic(auto, unfolding(qs_spec::specs::internal::ReadFunction::reads))]
     #[inline(always)]
     fn from_node(reader: Reader, node: &ParsedValue<'_>) -> Result<i32> {
         Self::from_data(reader.alloc, reader.signed(Width::Bits32, node)?)
@@ -181,7 +180,6 @@ impl Deserialize for i64 {
         signed(alloc, datum, i64::MIN, i64::MAX, "i64")
     }
 
-    #[tactic(auto, unfolding(qs_spec::specs::internal::ReadFunction::reads))]
     #[inline(always)]
     fn from_node(reader: Reader, node: &ParsedValue<'_>) -> Result<i64> {
         Self::from_data(reader.alloc, reader.signed(Width::Bits64, node)?)

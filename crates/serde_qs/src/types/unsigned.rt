@@ -1,5 +1,7 @@
 //! Unsigned numbers of 8 to 64 bits.
 
+#![tactic(auto, unfolding(qs_spec::specs::internal::ReadFunction::reads))]
+
 ghost use Rattle.std.specs.Prelude.{◌≡◌, ◌≤◌, ◌<◌, ◌^◌, ℕ, IfOk, refl};
 ghost use Rattle.qs_spec.specs.Data as d;
 ghost use Rattle.qs_spec.specs.Shape as s;
@@ -11,7 +13,7 @@ ghost use Rattle.serde_qs.specs.internal.ComesBack.{unsigned_back};
 ghost use Rattle.serde_qs.specs.internal.Ranges.{unsigned_within};
 ghost use Rattle.serde_qs.specs.Meaning.{unsigned_in};
 ghost use Rattle.serde_qs.specs.Tables.{table_of};
-ghost use Rattle.serde_qs.specs.Typed.{Means};
+ghost use Rattle.serde_qs.specs.Typed.{GivesValue};
 
 use crate::traits::{Deserialize, RoundTrip, Serialize, unexpected};
 use qs_data::{Data, Reader, Result, Scalar, Shape, Width, WriteResult, Writer};
@@ -21,7 +23,7 @@ use std::alloc::Global;
 // Returns the number that this data means, if it is at most `most`.
 #[inline(always)]
 fn unsigned(alloc: Global, datum: Data, most: u64, expected: &'static str) -> Result<u64>
-    ensures exact { Means (λ (n : ℕ). n) result (unsigned_in most (data_of datum)) }
+    ensures exact { GivesValue (λ (n : ℕ). n) result (unsigned_in most (data_of datum)) }
     ensures bound { IfOk result (λ n. n ≤ most) }
 {
     match datum {
@@ -76,7 +78,6 @@ impl Deserialize for u8 {
         Ok(unsigned(alloc, datum, 255, "u8")? as u8)
     }
 
-    #[tactic(auto, unfolding(qs_spec::specs::internal::ReadFunction::reads))]
     #[inline(always)]
     fn from_node(reader: Reader, node: &ParsedValue<'_>) -> Result<u8> {
         Self::from_data(reader.alloc, reader.unsigned(Width::Bits8, node)?)
@@ -111,7 +112,6 @@ impl Deserialize for u16 {
         Ok(unsigned(alloc, datum, 65535, "u16")? as u16)
     }
 
-    #[tactic(auto, unfolding(qs_spec::specs::internal::ReadFunction::reads))]
     #[inline(always)]
     fn from_node(reader: Reader, node: &ParsedValue<'_>) -> Result<u16> {
         Self::from_data(reader.alloc, reader.unsigned(Width::Bits16, node)?)
@@ -146,7 +146,6 @@ impl Deserialize for u32 {
         Ok(unsigned(alloc, datum, 4294967295, "u32")? as u32)
     }
 
-    #[tactic(auto, unfolding(qs_spec::specs::internal::ReadFunction::reads))]
     #[inline(always)]
     fn from_node(reader: Reader, node: &ParsedValue<'_>) -> Result<u32> {
         Self::from_data(reader.alloc, reader.unsigned(Width::Bits32, node)?)
@@ -181,7 +180,6 @@ impl Deserialize for u64 {
         unsigned(alloc, datum, 18446744073709551615, "u64")
     }
 
-    #[tactic(auto, unfolding(qs_spec::specs::internal::ReadFunction::reads))]
     #[inline(always)]
     fn from_node(reader: Reader, node: &ParsedValue<'_>) -> Result<u64> {
         Self::from_data(reader.alloc, reader.unsigned(Width::Bits64, node)?)

@@ -1,12 +1,12 @@
 -- The entries of a map, place by place.
-use Rattle.qs_data.proofs.Common.{◌≡◌, ℕ, zero, suc, ◌+◌, ◌≤◌, Bool, true, false, cond, ◌&&◌, length, slice_get, Option, Some, None, Result, Ok, Err, refl, sym, ap, subst, ◌∙◌, arith, add-one, inl, inr, cases_Bool, MatchResult, result_and, option_and_then, is_utf8, Segment, MarkedSegment, segment_text, Tree, Entries, no_entries, entry, keys_are_text, entry_list, is_text, entries_are_text, NumbersFit, KeyFits, PassesTest, entries_after, same_Some}
+use Rattle.qs_data.proofs.Common.{◌≡◌, ℕ, zero, suc, ◌+◌, ◌≤◌, Bool, true, false, cond, ◌&&◌, length, slice_get, Option, Some, None, Result, Ok, Err, refl, sym, ap, subst, ◌∙◌, arith, add-one, inl, inr, cases_Bool, MatchResult, result_and, option_and_then, is_utf8, Segment, ParsedSegment, segment_text, Tree, Entries, no_entries, entry, keys_are_text, entry_list, is_text, entries_are_text, NumbersFit, KeyFits, PassesTest, entries_after, same_Some}
 use Rattle.qs_data.proofs.lemmas.read.Errors.{and_left, and_right}
 
-pub after_some : (i : ℕ) (es : Entries) (x : MarkedSegment × Tree) → slice_get (entry_list es) i ≡ Some x → entries_after i es ≡ entry x.0.seg x.0.mark x.1 (entries_after (i + 1) es)
+pub after_some : (i : ℕ) (es : Entries) (x : ParsedSegment × Tree) → slice_get (entry_list es) i ≡ Some x → entries_after i es ≡ entry x.0.segment x.0.escaped x.1 (entries_after (i + 1) es)
 after_some zero (entry k m t es) x h =
-    let first : MarkedSegment × Tree = (record { seg = k; mark = m }, t) in
+    let first : ParsedSegment × Tree = (record { segment = k; escaped = m }, t) in
     let e : first ≡ x = same_Some first x h in
-    ap (λ (y : MarkedSegment × Tree). entry y.0.seg y.0.mark y.1 es) e
+    ap (λ (y : ParsedSegment × Tree). entry y.0.segment y.0.escaped y.1 es) e
 after_some (suc i) (entry k m t es) x h = rw add-one (after_some i es x h ∙ rw add-one)
 after_some i es x h = absurd cc
 

@@ -1,5 +1,5 @@
 -- The first of the entries that are left.
-use Rattle.qs_data.proofs.Common.{◌≡◌, ℕ, zero, suc, ◌+◌, Bool, true, false, cond, List, [], slice_get, Option, Some, None, refl, sym, ap, ◌∙◌, is_utf8, MarkedSegment, segment_text, Tree, Entries, no_entries, entry, keys_are_text, under_empty, entry_list, first_entry, utf8_text}
+use Rattle.qs_data.proofs.Common.{◌≡◌, ℕ, zero, suc, ◌+◌, Bool, true, false, cond, List, [], slice_get, Option, Some, None, refl, sym, ap, ◌∙◌, is_utf8, ParsedSegment, segment_text, Tree, Entries, no_entries, entry, keys_are_text, under_empty, entry_list, first_entry, utf8_text}
 use Rattle.std.specs.Prelude.{if◌then◌else◌}
 use Rattle.qs_data.specs.read.Entries.{entries_after}
 use Rattle.qs_data.proofs.lemmas.read.Entries.{after_none, after_some}
@@ -25,15 +25,15 @@ after_keys (suc i) (entry k m t es) h = and_right (is_utf8 (segment_text k)) (ke
 pub first_none : (i : ℕ) (es : Entries) → slice_get (entry_list es) i ≡ None → first_entry (entries_after i es) ≡ Some None
 first_none i es h = ap first_entry (after_none i es h)
 
-module _ (i : ℕ) (es : Entries) (x : MarkedSegment × Tree) (here : slice_get (entry_list es) i ≡ Some x) where
-  pub first_given : (key : List ℕ) → utf8_text (segment_text x.0.seg) ≡ Some key → first_entry (entries_after i es) ≡ Some (Some (key, x.1))
-  first_given key h = ap first_entry (after_some i es x here) ∙ given (is_utf8 (segment_text x.0.seg)) (segment_text x.0.seg) key x.1 h
+module _ (i : ℕ) (es : Entries) (x : ParsedSegment × Tree) (here : slice_get (entry_list es) i ≡ Some x) where
+  pub first_given : (key : List ℕ) → utf8_text (segment_text x.0.segment) ≡ Some key → first_entry (entries_after i es) ≡ Some (Some (key, x.1))
+  first_given key h = ap first_entry (after_some i es x here) ∙ given (is_utf8 (segment_text x.0.segment)) (segment_text x.0.segment) key x.1 h
 
-  pub first_rejected : utf8_text (segment_text x.0.seg) ≡ None → first_entry (entries_after i es) ≡ None
-  first_rejected h = ap first_entry (after_some i es x here) ∙ not_given (is_utf8 (segment_text x.0.seg)) (segment_text x.0.seg) x.1 h
+  pub first_rejected : utf8_text (segment_text x.0.segment) ≡ None → first_entry (entries_after i es) ≡ None
+  first_rejected h = ap first_entry (after_some i es x here) ∙ not_given (is_utf8 (segment_text x.0.segment)) (segment_text x.0.segment) x.1 h
 
-  pub key_bad : is_utf8 (segment_text x.0.seg) ≡ false → keys_are_text es ≡ false
-  key_bad n = after_keys i es (ap keys_are_text (after_some i es x here) ∙ and_left (is_utf8 (segment_text x.0.seg)) (keys_are_text (entries_after (i + 1) es)) n)
+  pub key_bad : is_utf8 (segment_text x.0.segment) ≡ false → keys_are_text es ≡ false
+  key_bad n = after_keys i es (ap keys_are_text (after_some i es x here) ∙ and_left (is_utf8 (segment_text x.0.segment)) (keys_are_text (entries_after (i + 1) es)) n)
 
 -- a value under the empty key
 

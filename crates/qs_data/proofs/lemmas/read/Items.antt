@@ -1,5 +1,5 @@
 -- The items of a node, place by place.
-use Rattle.qs_data.proofs.Common.{◌++◌, inl, inr, append-nil, ◌≡◌, ℕ, zero, suc, ◌+◌, ◌≤◌, ◌&&◌, Bool, true, false, cond, List, [], ◌∷◌, map, drop, length, slice_get, Option, Some, None, refl, sym, ap, ◌∙◌, arith, drop_all, cases_Bool, false≢true, MarkedSegment, Tree, Items, Entries, no_items, item, no_entries, entry, sequence_items, placed, is_place, is_int, are_ints, Global, tree_of, items_from, entry_list, segment_of_key, ParsedValue, option_map, option_and_then, items, Reader, read_each, with_front, leaf, sequence, mapping, uninitialized, is_utf8, segment_text, entries_after, first_item, are_text, passed, is_text, items_are_text, entries_are_text, and-true, same_Some}
+use Rattle.qs_data.proofs.Common.{◌++◌, inl, inr, append-nil, ◌≡◌, ℕ, zero, suc, ◌+◌, ◌≤◌, ◌&&◌, Bool, true, false, cond, List, [], ◌∷◌, map, drop, length, slice_get, Option, Some, None, refl, sym, ap, ◌∙◌, arith, drop_all, cases_Bool, false≢true, ParsedSegment, Tree, Items, Entries, no_items, item, no_entries, entry, sequence_items, placed, is_place, is_int, are_ints, Global, tree_of, items_from, entry_list, segment_of_key, ParsedValue, option_map, option_and_then, items, Reader, read_each, with_front, leaf, sequence, mapping, uninitialized, is_utf8, segment_text, entries_after, first_item, are_text, passed, is_text, items_are_text, entries_are_text, and-true, same_Some}
 use Rattle.std.specs.declared.borrow.CowSlice.{CowSlice}
 use Rattle.std.specs.declared.borrow.CowSlice.TheVariants.{Borrowed, Owned}
 use Rattle.qs_tree.specs.declared.tree.key.Key.{Key}
@@ -25,7 +25,7 @@ places_at : (i : ℕ) (es : Entries) → drop i (placed 0 es) ≡ placed i (entr
 places_at i es = let e : 0 + i ≡ i = omega arith in places_from i 0 es ∙ ap (λ n. placed n (entries_after i es)) e
 
 -- what stands at a place of a map, if anything does
-pub place_here : (i : ℕ) (es : Entries) (x : MarkedSegment × Tree) → slice_get (entry_list es) i ≡ Some x → drop i (placed 0 es) ≡ cond (is_place i x.0.seg) (Some x.1) None ∷ placed (i + 1) (entries_after (i + 1) es)
+pub place_here : (i : ℕ) (es : Entries) (x : ParsedSegment × Tree) → slice_get (entry_list es) i ≡ Some x → drop i (placed 0 es) ≡ cond (is_place i x.0.segment) (Some x.1) None ∷ placed (i + 1) (entries_after (i + 1) es)
 place_here i es x h = places_at i es ∙ ap (placed i) (after_some i es x h)
 
 pub place_none : (i : ℕ) (es : Entries) → slice_get (entry_list es) i ≡ None → drop i (placed 0 es) ≡ []
@@ -42,15 +42,15 @@ is_passed false h = absurd cc
 pub first_none : (i : ℕ) (es : Entries) → slice_get (entry_list es) i ≡ None → first_item (drop i (placed 0 es)) ≡ Some None
 first_none i es h = ap first_item (place_none i es h)
 
-pub first_rejected : (i : ℕ) (es : Entries) (x : MarkedSegment × Tree) → slice_get (entry_list es) i ≡ Some x → passed (is_place i x.0.seg) ≡ None → first_item (drop i (placed 0 es)) ≡ None
+pub first_rejected : (i : ℕ) (es : Entries) (x : ParsedSegment × Tree) → slice_get (entry_list es) i ≡ Some x → passed (is_place i x.0.segment) ≡ None → first_item (drop i (placed 0 es)) ≡ None
 first_rejected i es x h n =
     let rest = placed (i + 1) (entries_after (i + 1) es) in
-    ap first_item (place_here i es x h ∙ ap (λ b. cond b (Some x.1) None ∷ rest) (not_passed (is_place i x.0.seg) n))
+    ap first_item (place_here i es x h ∙ ap (λ b. cond b (Some x.1) None ∷ rest) (not_passed (is_place i x.0.segment) n))
 
-pub first_given : (i : ℕ) (es : Entries) (x : MarkedSegment × Tree) → slice_get (entry_list es) i ≡ Some x → passed (is_place i x.0.seg) ≡ Some true → first_item (drop i (placed 0 es)) ≡ Some (Some x.1)
+pub first_given : (i : ℕ) (es : Entries) (x : ParsedSegment × Tree) → slice_get (entry_list es) i ≡ Some x → passed (is_place i x.0.segment) ≡ Some true → first_item (drop i (placed 0 es)) ≡ Some (Some x.1)
 first_given i es x h y =
     let rest = placed (i + 1) (entries_after (i + 1) es) in
-    ap first_item (place_here i es x h ∙ ap (λ b. cond b (Some x.1) None ∷ rest) (is_passed (is_place i x.0.seg) y))
+    ap first_item (place_here i es x h ∙ ap (λ b. cond b (Some x.1) None ∷ rest) (is_passed (is_place i x.0.segment) y))
 
 -- one of several is as long as the list
 pub each_length : (ts : List ParsedValue) → length (sequence_items (items_from (map tree_of ts))) ≡ length ts
@@ -68,10 +68,10 @@ each_at (suc i) [] = refl
 each_at (suc i) (t ∷ ts) = each_at i ts
 
 -- a key that is a number, and one that is none
-pub int_key : (i : ℕ) (es : Entries) (x : MarkedSegment × Tree) → slice_get (entry_list es) i ≡ Some x → is_int x.0.seg ≡ true → are_ints (entries_after i es) ≡ are_ints (entries_after (i + 1) es)
+pub int_key : (i : ℕ) (es : Entries) (x : ParsedSegment × Tree) → slice_get (entry_list es) i ≡ Some x → is_int x.0.segment ≡ true → are_ints (entries_after i es) ≡ are_ints (entries_after (i + 1) es)
 int_key i es x h n = ap are_ints (after_some i es x h) ∙ ap (λ b. b && are_ints (entries_after (i + 1) es)) n
 
-pub not_int : (i : ℕ) (es : Entries) (x : MarkedSegment × Tree) → slice_get (entry_list es) i ≡ Some x → is_int x.0.seg ≡ false → are_ints (entries_after i es) ≡ false
+pub not_int : (i : ℕ) (es : Entries) (x : ParsedSegment × Tree) → slice_get (entry_list es) i ≡ Some x → is_int x.0.segment ≡ false → are_ints (entries_after i es) ≡ false
 not_int i es x h n = ap are_ints (after_some i es x h) ∙ ap (λ b. b && are_ints (entries_after (i + 1) es)) n
 
 pub string_key : (k : Key) (t : CowSlice ℕ Global) → k ≡ key.String t → is_int (segment_of_key k) ≡ false

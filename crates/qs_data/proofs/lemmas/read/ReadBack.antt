@@ -11,14 +11,14 @@ use Rattle.qs_spec.proofs.WrittenBack as back
 use Rattle.qs_tree.specs.declared.error.Error.TheVariants.{OutOfMemory}
 use Rattle.qs_data.specs.read.ReadBack.{IsOrder, IsSame, ReadsBack}
 
-pub in_order : (config : Config) (shape : s.Shape) (x : d.Data) (es : List Entry) → s.is_distinct shape ≡ true → IsPlainFor config shape x → IsOrder config x es → IsReadBack config shape x (written config.form false es)
+pub in_order : (config : Config) (shape : s.Shape) (x : d.Data) (es : List Entry) → s.is_distinct shape ≡ true → IsPlainFor config shape x → IsOrder config x es → IsReadBack config shape x (written config.is_form false es)
 in_order config shape x es dist w (inl o) = back.read_back config shape x es o.0 dist w o.1
 in_order config shape x es dist w (inr o) = back.lists_back config shape x es dist w o.0 o.1
 
 pub reads_back : (parsed : Parsed) (shape : s.Shape) (result : Result Data Error) → s.is_distinct shape ≡ true → ReturnsData parsed shape result → ReadsBack parsed shape result
 reads_back parsed shape result dist g x es w o t =
     let b = in_order parsed.config shape x es dist w o in
-    let one : b.tree ≡ parsed.tree = one_tree parsed.config.form parsed.config.max_depth (written parsed.config.form false es) b.tree parsed.tree b.is_tree t in
+    let one : b.tree ≡ parsed.tree = one_tree parsed.config.is_form parsed.config.max_depth (written parsed.config.is_form false es) b.tree parsed.tree b.is_tree t in
     by b.answer b.same (subst (λ t. ReadsBy parsed.config shape t b.answer) one b.reads) result g
   where
     by : (a : d.Data) → Same x a → ReadsBy parsed.config shape parsed.tree a → (result : Result Data Error) → ReturnsData parsed shape result → IsSame x result

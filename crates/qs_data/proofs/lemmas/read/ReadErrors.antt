@@ -1,5 +1,5 @@
 -- An error of a part as the error of the whole, inside reading.
-use Rattle.qs_data.proofs.Common.{◌≡◌, ℕ, List, Bool, false, Option, None, ◌∙◌, sym, Result, Ok, Err, subst, inl, inr, ◌==◌, list_any, IsErrAnd, cases_Bool, MatchBool-at_true, MatchBool-at_false, ReadError, ReadGives, ReadRejects, ReadIsCustom, ReadSpares, ReadIsFrugal, error_of}
+use Rattle.qs_data.proofs.Common.{◌≡◌, ℕ, List, Bool, false, Option, None, ◌∙◌, sym, Result, Ok, Err, subst, inl, inr, ◌==◌, list_any, IsErrAnd, cases_Bool, MatchBool-at_true, MatchBool-at_false, ReadError, ReadGives, ReadRejects, ReadIsCustom, ReadRunsOutOnlyToReject, ReadIsFrugal, error_of}
 use Rattle.qs_tree.specs.Error.{IsCustomSaying}
 use Rattle.qs_data.specs.declared.read.error.ReadError.TheVariants.{Custom, Utf8, OutOfMemory}
 use Rattle.qs_data.specs.read.internal.Hint.{IsKeyError, IsHinted, hinted_text}
@@ -21,16 +21,16 @@ pub gives_exit : {X Y Z : Type 0} (view : X → Y) (t u : Bool) (x : Result X Re
 gives_exit view t u (Ok x) e r s h f n g = absurd h
 gives_exit view t u (Err y) e r s h f n g = let P : ReadError → Type 0 = λ z. ReadRejects u z s in subst P (sym h) (rejected t u e r s f n g)
 
-spared : {Y Z : Type 0} (e : ReadError) (r : Option Y) (s : Option Z) → ReadSpares e r → (r ≡ None → s ≡ None) → ReadSpares e s
+spared : {Y Z : Type 0} (e : ReadError) (r : Option Y) (s : Option Z) → ReadRunsOutOnlyToReject e r → (r ≡ None → s ≡ None) → ReadRunsOutOnlyToReject e s
 spared (Custom m) r s h n = tt
 spared (Utf8 c) r s h n = tt
 spared OutOfMemory r s h n = n h
 
-pub frugal_exit : {X Y Z : Type 0} (x : Result X ReadError) (e : ReadError) (r : Option Z) (s : Option Y) → IsErrAnd x (λ y. y ≡ e) → ReadSpares e r → (r ≡ None → s ≡ None) → ReadIsFrugal x s
+pub frugal_exit : {X Y Z : Type 0} (x : Result X ReadError) (e : ReadError) (r : Option Z) (s : Option Y) → IsErrAnd x (λ y. y ≡ e) → ReadRunsOutOnlyToReject e r → (r ≡ None → s ≡ None) → ReadIsFrugal x s
 frugal_exit (Ok x) e r s h f n = tt
-frugal_exit (Err y) e r s h f n = let P : ReadError → Type 0 = λ z. ReadSpares z s in subst P (sym h) (spared e r s f n)
+frugal_exit (Err y) e r s h f n = let P : ReadError → Type 0 = λ z. ReadRunsOutOnlyToReject z s in subst P (sym h) (spared e r s f n)
 
-pub custom_spared : {Y : Type 0} (e : ReadError) (r : Option Y) → r ≡ None → ReadSpares e r
+pub custom_spared : {Y : Type 0} (e : ReadError) (r : Option Y) → r ≡ None → ReadRunsOutOnlyToReject e r
 custom_spared (Custom m) r n = tt
 custom_spared (Utf8 c) r n = tt
 custom_spared OutOfMemory r n = n

@@ -21,7 +21,7 @@ part_nothing a = record { config = refl; writes = writes_nothing a.config (state
 
 -- an allocation failed at once
 pub part_out_of_memory : (a : Writer) (x : Part) → WritesPart (Err OutOfMemory) a a x
-part_out_of_memory a x = record { config = refl; writes = λ path at. some_none a.config.form (state_of a) (x a.config path).entries }
+part_out_of_memory a x = record { config = refl; writes = λ path at. some_none a.config.is_form (state_of a) (x a.config path).entries }
 
 -- where the writer doesn't go in
 pub part_entering : (e : Stop) (a b : Writer) (s : List ℕ) → b.config ≡ a.config → state_of b ≡ state_of a → IsBarred a.config e a.walk → (x : Part) → WritesPart (Err e) a b (under s x)

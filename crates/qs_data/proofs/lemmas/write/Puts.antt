@@ -24,9 +24,9 @@ put_middle front middle rest whole n a b c is before proper now =
     ap (λ t. front ++ t) (sym (take-append-le n middle rest (omega (arith, proper)))) ∙ sym (take-append-add front (middle ++ rest) n) ∙ ap (take (length front + n)) (sym is) in
     (length front + n, omega (arith, long, proper), subst (Appends a c) part (Appends-trans a b c _ _ before now))
 
-pub encoded_parts : (form : Bool) (front piece tail : List ℕ) → encoded form (front ++ (piece ++ tail)) ≡ encoded form front ++ (encoded form piece ++ encoded form tail)
-encoded_parts form front piece tail =
-    flat_map-append (encoded_byte form) front (piece ++ tail) ∙ ap (λ t. encoded form front ++ t) (flat_map-append (encoded_byte form) piece tail)
+pub encoded_parts : (is_form : Bool) (front piece tail : List ℕ) → encoded is_form (front ++ (piece ++ tail)) ≡ encoded is_form front ++ (encoded is_form piece ++ encoded is_form tail)
+encoded_parts is_form front piece tail =
+    flat_map-append (encoded_byte is_form) front (piece ++ tail) ∙ ap (λ t. encoded is_form front ++ t) (flat_map-append (encoded_byte is_form) piece tail)
 
 -- what the exit of a `?` owes, where the error goes on as it is
 pub exit_part : {T E : Type 0} (r : Result T E) (e : E) (P : E → Type 0) → IsErrAnd r (λ y. y ≡ e) → P e → IfErr r P

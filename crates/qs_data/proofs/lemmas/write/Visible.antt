@@ -9,7 +9,7 @@ use Rattle.qs_spec.proofs.KeysBack.{encoded_digits}
 abbrev is_visible : ℕ → Bool
 is_visible b = leb 33 b && leb b 126
 
-byte_visible : (form : Bool) (b : ℕ) → b < 256 → list_all is_visible (encoded_byte form b) ≡ true
+byte_visible : (is_form : Bool) (b : ℕ) → b < 256 → list_all is_visible (encoded_byte is_form b) ≡ true
 byte_visible true b l = agree_below_at (λ b. list_all is_visible (encoded_byte true b)) (λ b. true) 256 b refl l
 byte_visible false b l = agree_below_at (λ b. list_all is_visible (encoded_byte false b)) (λ b. true) 256 b refl l
 
@@ -23,19 +23,19 @@ all_visible (b ∷ bs) e = let h = and_both (is_visible b) (list_all is_visible 
 abbrev IsByte : ℕ → Type 0
 IsByte b = b < 256
 
-encoded_all : (form : Bool) (bs : List ℕ) → All IsByte bs → All IsVisible (encoded form bs)
-encoded_all form [] h = All-nil IsVisible
-encoded_all form (b ∷ bs) h =
-    All-append IsVisible (encoded_byte form b) (encoded form bs) (all_visible (encoded_byte form b) (byte_visible form b (All-head IsByte b bs h))) (encoded_all form bs (All-tail IsByte b bs h))
+encoded_all : (is_form : Bool) (bs : List ℕ) → All IsByte bs → All IsVisible (encoded is_form bs)
+encoded_all is_form [] h = All-nil IsVisible
+encoded_all is_form (b ∷ bs) h =
+    All-append IsVisible (encoded_byte is_form b) (encoded is_form bs) (all_visible (encoded_byte is_form b) (byte_visible is_form b (All-head IsByte b bs h))) (encoded_all is_form bs (All-tail IsByte b bs h))
 
-pub encoded_visible : (form : Bool) (bs : List ℕ) → ((k : ℕ) → Fits w8 (get_or bs k 0)) → All IsVisible (encoded form bs)
-encoded_visible form bs h = encoded_all form bs (All-from_get_or IsByte bs 0 (λ k l. omega (arith, h k)))
+pub encoded_visible : (is_form : Bool) (bs : List ℕ) → ((k : ℕ) → Fits w8 (get_or bs k 0)) → All IsVisible (encoded is_form bs)
+encoded_visible is_form bs h = encoded_all is_form bs (All-from_get_or IsByte bs 0 (λ k l. omega (arith, h k)))
 
-pub open_visible : (form : Bool) → All IsVisible (open_bytes form)
+pub open_visible : (is_form : Bool) → All IsVisible (open_bytes is_form)
 open_visible true = all_visible (open_bytes true) refl
 open_visible false = all_visible (open_bytes false) refl
 
-pub close_visible : (form : Bool) → All IsVisible (close_bytes form)
+pub close_visible : (is_form : Bool) → All IsVisible (close_bytes is_form)
 close_visible true = all_visible (close_bytes true) refl
 close_visible false = all_visible (close_bytes false) refl
 
@@ -46,7 +46,7 @@ pub ruleset joined = (All-append, open_visible, close_visible, equals_visible)
 
 -- a text that is written as it is
 abbrev IsWrittenAsIs : Bool → List ℕ → Type 0
-IsWrittenAsIs form text = (encoded form text ≡ text) × All IsVisible (encoded form text)
+IsWrittenAsIs is_form text = (encoded is_form text ≡ text) × All IsVisible (encoded is_form text)
 
 digits_bytes : (ds : List ℕ) → AreDigits ds → AllByRecursion (λ b. b < 256) ds
 digits_bytes [] e = tt
@@ -59,33 +59,33 @@ digits_visible (b ∷ ds) e = let h = and_both (is_between 48 57 b) (list_all (i
     let r = and_both (leb 48 b) (leb b 57) h.0 in
     All-cons IsVisible b ds (grind (arith, nat_tests), grind (arith, nat_tests)) (digits_visible ds h.1)
 
-unsigned_plain : (form : Bool) (n : ℕ) → n < 2 ^ 64 → IsWrittenAsIs form (decimal n)
-unsigned_plain form n l =
+unsigned_plain : (is_form : Bool) (n : ℕ) → n < 2 ^ 64 → IsWrittenAsIs is_form (decimal n)
+unsigned_plain is_form n l =
     let digits = digits_decimal numerals n l in
-    let same = encoded_digits form (decimal n) (digits_bytes (decimal n) digits) digits in
+    let same = encoded_digits is_form (decimal n) (digits_bytes (decimal n) digits) digits in
     (same, subst (All IsVisible) (sym same) (digits_visible (decimal n) digits))
 
-minus : (form : Bool) → encoded_byte form 45 ≡ 45 ∷ []
+minus : (is_form : Bool) → encoded_byte is_form 45 ≡ 45 ∷ []
 minus true = refl
 minus false = refl
 
-signed_plain : (form : Bool) (z : ℤ) → mag z + 1 < 2 ^ 64 → IsWrittenAsIs form (signed_decimal z)
-signed_plain form (pos n) l = unsigned_plain form n (omega (arith, l))
-signed_plain form (negsuc n) l =
-    let p = unsigned_plain form (suc n) (omega (arith, l)) in
-    let same : encoded form (45 ∷ decimal (suc n)) ≡ 45 ∷ decimal (suc n) = ap (λ t. t ++ encoded form (decimal (suc n))) (minus form) ∙ ap (λ t. 45 ∷ t) p.0 in
+signed_plain : (is_form : Bool) (z : ℤ) → mag z + 1 < 2 ^ 64 → IsWrittenAsIs is_form (signed_decimal z)
+signed_plain is_form (pos n) l = unsigned_plain is_form n (omega (arith, l))
+signed_plain is_form (negsuc n) l =
+    let p = unsigned_plain is_form (suc n) (omega (arith, l)) in
+    let same : encoded is_form (45 ∷ decimal (suc n)) ≡ 45 ∷ decimal (suc n) = ap (λ t. t ++ encoded is_form (decimal (suc n))) (minus is_form) ∙ ap (λ t. 45 ∷ t) p.0 in
     (same, subst (All IsVisible) (sym same) (All-cons IsVisible 45 (decimal (suc n)) (omega arith, omega arith) (subst (All IsVisible) p.0 p.1)))
 
-pub unsigned_encoded : (form : Bool) (n : ℕ) → n < 2 ^ 64 → encoded form (decimal n) ≡ decimal n
-unsigned_encoded form n l = (unsigned_plain form n l).0
+pub unsigned_encoded : (is_form : Bool) (n : ℕ) → n < 2 ^ 64 → encoded is_form (decimal n) ≡ decimal n
+unsigned_encoded is_form n l = (unsigned_plain is_form n l).0
 
-pub unsigned_visible : (form : Bool) (n : ℕ) → n < 2 ^ 64 → All IsVisible (encoded form (decimal n))
-unsigned_visible form n l = (unsigned_plain form n l).1
+pub unsigned_visible : (is_form : Bool) (n : ℕ) → n < 2 ^ 64 → All IsVisible (encoded is_form (decimal n))
+unsigned_visible is_form n l = (unsigned_plain is_form n l).1
 
-pub signed_encoded : (form : Bool) (z : ℤ) → mag z + 1 < 2 ^ 64 → encoded form (signed_decimal z) ≡ signed_decimal z
-signed_encoded form z l = (signed_plain form z l).0
+pub signed_encoded : (is_form : Bool) (z : ℤ) → mag z + 1 < 2 ^ 64 → encoded is_form (signed_decimal z) ≡ signed_decimal z
+signed_encoded is_form z l = (signed_plain is_form z l).0
 
-pub signed_visible : (form : Bool) (z : ℤ) → mag z + 1 < 2 ^ 64 → All IsVisible (encoded form (signed_decimal z))
-signed_visible form z l = (signed_plain form z l).1
+pub signed_visible : (is_form : Bool) (z : ℤ) → mag z + 1 < 2 ^ 64 → All IsVisible (encoded is_form (signed_decimal z))
+signed_visible is_form z l = (signed_plain is_form z l).1
 
 pub ruleset numbers = (unsigned_encoded, unsigned_visible, signed_encoded, signed_visible)

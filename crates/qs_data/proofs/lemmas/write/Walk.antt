@@ -17,8 +17,8 @@ deeper_goes limit p s f h = ap (λ b. cond b (failure too_deep) (f (p ++ s ∷ [
 -- where the walk doesn't go in
 stops_entering : (e : Stop) (config : Config) (t : StreamState) (p : Path) (s : List ℕ) (f : Path → Output) → ((e ≡ TooDeep) × (config.max_depth < length p)) ⊎ (e ≡ OutOfMemory)
     → Stops e config t t (deeper config.max_depth p s f)
-stops_entering e config t p s f (inl h) = rw (h.0, deeper_failure config.max_depth p s f h.1) (refl, adds_nothing config.form t)
-stops_entering e config t p s f (inr h) = rw h (some_none config.form t (deeper config.max_depth p s f).entries)
+stops_entering e config t p s f (inl h) = rw (h.0, deeper_failure config.max_depth p s f h.1) (refl, adds_nothing config.is_form t)
+stops_entering e config t p s f (inr h) = rw h (some_none config.is_form t (deeper config.max_depth p s f).entries)
 
 pub stays_out : (r : Result (Unit {0}) Stop) (e : Stop) (config : Config) (t : StreamState) (from to : Walk) (s : List ℕ) (x : Part) → IsErrAnd r (λ y. y ≡ e) → IsBarred config e from
     → WritesAt config r t t from to (under s x)

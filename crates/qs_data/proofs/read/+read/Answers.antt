@@ -1,4 +1,4 @@
-use Rattle.qs_data.proofs.Common.{◌≡◌, ◌+◌, ◌<◌, ◌++◌, ◌||◌, ◌∷◌, [], ap, sym, subst, ◌∙◌, length, slice_get, map, drop, true, false, Some, None, option_map, string_bytes, rules, arith, common_steps, is_utf8, segment_text, MarkedSegment, mapping, entry, are_ignored, Shape, no_items, found, as_map, under_empty, keys_are_text, keys_are_names, keys_are_allowed, items, reads_names, reads_places, reads_variant, reads_kind, read_enum, read_option, read_field, read_place, read_each, read_pairs, reads_tuple, tree_of, items_from, entries_of_map, marked_segment_of_key, data_of, named, pair_of, shape_of, field_of, fields_in, variant_of, variants_in, key_shape_of, shapes_in, is_text, items_are_text, entries_are_text, ReadGives, entries_view, entries_after, unknown_of, variant_named, key_data, Tree, false≢true, option_and_then, items_view, first_item, are_text}
+use Rattle.qs_data.proofs.Common.{◌≡◌, ◌+◌, ◌<◌, ◌++◌, ◌||◌, ◌∷◌, [], ap, sym, subst, ◌∙◌, length, slice_get, map, drop, true, false, Some, None, option_map, string_bytes, rules, arith, common_steps, is_utf8, segment_text, ParsedSegment, mapping, entry, are_ignored, Shape, no_items, found, as_map, under_empty, keys_are_text, keys_are_names, keys_are_allowed, items, reads_names, reads_places, reads_variant, reads_kind, read_enum, read_option, read_field, read_place, read_each, read_pairs, reads_tuple, tree_of, items_from, entries_of_map, parsed_segment_of_key, data_of, named, pair_of, shape_of, field_of, fields_in, variant_of, variants_in, key_shape_of, shapes_in, is_text, items_are_text, entries_are_text, ReadGives, entries_view, entries_after, unknown_of, variant_named, key_data, Tree, false≢true, option_and_then, items_view, first_item, are_text}
 use Rattle.qs_spec.specs.Data as d
 use Rattle.qs_spec.specs.Shape.{is_option as is_option_shape}
 use Rattle.qs_spec.specs.internal.ReadFunction.{reads, struct_members, read_list}
@@ -149,13 +149,13 @@ pub variants::read_least-returns-in_err-place : goal.variants::read_least-return
 variants::read_least-returns-in_err-place t c =
     let ds = c.deref.result.now in
     let es = entries_of_map c.args.map.now in
-    let key = marked_segment_of_key c.in-Some.key.now in
+    let key = parsed_segment_of_key c.in-Some.key.now in
     let n = tree_of c.in-Some.value.now in
-    let least : es ≡ entry key.seg key.mark n (entries_after 1 es) = after_some 0 es (key, n) (sym c.in-Some.ensures.value) in
-    let name = segment_text key.seg in
+    let least : es ≡ entry key.segment key.escaped n (entries_after 1 es) = after_some 0 es (key, n) (sym c.in-Some.ensures.value) in
+    let name = segment_text key.segment in
     let exit = gives_exit data_of (is_utf8 name) (entries_are_text es) c.from_residual.result c.in_err-place.field-0.0 (option_map Some (variant_named name (variants_in ds)))
     (read_enum (variants_in ds) (reads_variant c.args.reader.reject_duplicates (variants_in ds)) (mapping es)) c.from_residual.ensures.1 c.in_err-place.ensures.named
-    (enum_none c.args.reader.reject_duplicates (variants_in ds) es (entries_after 1 es) key.seg key.mark n least) (key_bad 0 es (key, n) (sym c.in-Some.ensures.value)) in
+    (enum_none c.args.reader.reject_duplicates (variants_in ds) es (entries_after 1 es) key.segment key.escaped n least) (key_bad 0 es (key, n) (sym c.in-Some.ensures.value)) in
     subst (λ ys. ReadGives data_of (entries_are_text es) c.from_residual.result (read_enum (variants_in ys) (reads_variant c.args.reader.reject_duplicates (variants_in ys)) (mapping es))) c.deref.ensures.value exit
 
 pub variants::read_least-returns : goal.variants::read_least-returns
@@ -163,17 +163,17 @@ variants::read_least-returns t c =
     let ds = c.args.variants.now.items in
     let vs = variants_in ds in
     let es = entries_of_map c.args.map.now in
-    let key = marked_segment_of_key c.in-Some.key.now in
+    let key = parsed_segment_of_key c.in-Some.key.now in
     let n = tree_of c.in-Some.value.now in
-    let least : es ≡ entry key.seg key.mark n (entries_after 1 es) = after_some 0 es (key, n) (sym c.in-Some.ensures.value) in
-    let name = segment_text key.seg in
+    let least : es ≡ entry key.segment key.escaped n (entries_after 1 es) = after_some 0 es (key, n) (sym c.in-Some.ensures.value) in
+    let name = segment_text key.segment in
     let i = c.in_ok-place.place in
     let v = c.index.result.now in
     let found = subst (λ ys. option_map Some (variant_named name (variants_in ys)) ≡ Some (option_map variant_of (slice_get ys i))) c.deref.ensures.value c.in_ok-place.ensures.named in
     let inside = subst (λ ys. i < length ys) c.deref.ensures.value c.in_ok-place.ensures.place in
     let named = named_is name ds i v found inside c.index.ensures in
     gives_as data_of (is_text n) (entries_are_text es) c.read_variant.result (reads_kind c.args.reader.reject_duplicates (variant_of v).1 (variant_of v).0 n) (read_enum vs (reads_variant c.args.reader.reject_duplicates vs) (mapping es))
-    c.read_variant.ensures (sym (enum_some c.args.reader.reject_duplicates vs es (entries_after 1 es) key.seg key.mark n least v named)) (value_bad 0 es (key, n) (sym c.in-Some.ensures.value))
+    c.read_variant.ensures (sym (enum_some c.args.reader.reject_duplicates vs es (entries_after 1 es) key.segment key.escaped n least v named)) (value_bad 0 es (key, n) (sym c.in-Some.ensures.value))
 
 pub variants::struct_variant_data-returns : goal.variants::struct_variant_data-returns
 unfolding reads
@@ -280,9 +280,9 @@ maps::read_pairs-returns-in_err-key t c =
     let es = entries_of_map c.args.entries.now in
     let k = key_shape_of c.args.key_shape.now in
     let r = reads c.args.reader.reject_duplicates (shape_of c.args.part.now) in
-    let x : MarkedSegment × Tree = (marked_segment_of_key c.in-Some.key.now, tree_of c.in-Some.value.now) in
+    let x : ParsedSegment × Tree = (parsed_segment_of_key c.in-Some.key.now, tree_of c.in-Some.value.now) in
     let here = sym c.in-Some.ensures.value in
-    gives_exit (λ v. map pair_of v.items) (is_utf8 (segment_text x.0.seg)) (entries_are_text es) c.from_residual-in_err-key.result c.in_err-key.field-0.0 (key_data k (segment_text x.0.seg)) (read_pairs k r es)
+    gives_exit (λ v. map pair_of v.items) (is_utf8 (segment_text x.0.segment)) (entries_are_text es) c.from_residual-in_err-key.result c.in_err-key.field-0.0 (key_data k (segment_text x.0.segment)) (read_pairs k r es)
     c.from_residual-in_err-key.ensures.1 c.in_err-key.ensures (λ e. l.invariant ∙ pairs_no_key k r es l.i (map pair_of l.pairs.items) x here e) (key_bad l.i es x here)
 
 pub maps::read_pairs-returns-in_err-value : goal.maps::read_pairs-returns-in_err-value
@@ -291,7 +291,7 @@ maps::read_pairs-returns-in_err-value t c =
     let es = entries_of_map c.args.entries.now in
     let k = key_shape_of c.args.key_shape.now in
     let r = reads c.args.reader.reject_duplicates (shape_of c.args.part.now) in
-    let x : MarkedSegment × Tree = (marked_segment_of_key c.in-Some.key.now, tree_of c.in-Some.value.now) in
+    let x : ParsedSegment × Tree = (parsed_segment_of_key c.in-Some.key.now, tree_of c.in-Some.value.now) in
     let here = sym c.in-Some.ensures.value in
     gives_exit (λ v. map pair_of v.items) (is_text x.1) (entries_are_text es) c.from_residual-in_err-value.result c.in_err-value.field-0.0 (r x.1) (read_pairs k r es)
     c.from_residual-in_err-value.ensures.1 c.in_err-value.ensures.gives (λ e. l.invariant ∙ pairs_no_value k r es l.i (map pair_of l.pairs.items) x here e) (value_bad l.i es x here)
@@ -302,7 +302,7 @@ maps::read_pairs-loop-i-preserved t c =
     let es = entries_of_map c.args.entries.now in
     let k = key_shape_of c.args.key_shape.now in
     let r = reads c.args.reader.reject_duplicates (shape_of c.args.part.now) in
-    let x : MarkedSegment × Tree = (marked_segment_of_key c.in-Some.key.now, tree_of c.in-Some.value.now) in
+    let x : ParsedSegment × Tree = (parsed_segment_of_key c.in-Some.key.now, tree_of c.in-Some.value.now) in
     let ws = map pair_of l.pairs.items in
     let a = data_of c.in_ok-key.key in
     let d = data_of c.in_ok-value.value in

@@ -11,7 +11,7 @@ use Rattle.qs_spec.specs.Node.{last_item}
 abbrev pub given_text : Bool → Tree → Option (Option (List ℕ))
 given_text reject_duplicates (leaf NoValue) = Some None
 given_text reject_duplicates (leaf Null) = Some None
-given_text reject_duplicates (leaf (Text bytes mark)) = Some (Some bytes)
+given_text reject_duplicates (leaf (Text bytes escaped)) = Some (Some bytes)
 given_text reject_duplicates (sequence xs) = option_map Some (last_item reject_duplicates xs)
 given_text reject_duplicates (mapping es) = None
 given_text reject_duplicates uninitialized = None

@@ -27,7 +27,7 @@ ParsesNumber (Some n) name = (n < 2 ^ 32) × (decimal n ≡ name)
 abbrev pub entries_after : ℕ → t.Entries → t.Entries
 entries_after zero es = es
 entries_after (suc i) no_entries = no_entries
-entries_after (suc i) (entry k mark t es) = entries_after i es
+entries_after (suc i) (entry k escaped t es) = entries_after i es
 
 -- nothing more to return, if a test is passed
 abbrev pub when : Bool → Option (Unit {0})

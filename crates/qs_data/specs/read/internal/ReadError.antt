@@ -4,7 +4,7 @@ use Rattle.qs_data.specs.declared.read.error.ReadError.{ReadError}
 use Rattle.qs_data.specs.read.Errors.{IsCustomOrOutOfMemory}
 use Rattle.qs_data.specs.read.Gives.{Rejects}
 use Rattle.qs_data.specs.read.Narrowed.{error_of}
-use Rattle.qs_data.specs.read.internal.Frugal.{Spares}
+use Rattle.qs_data.specs.read.internal.Frugal.{RunsOutOnlyToReject}
 
 -- each of these says the same of the error that a caller sees
 abbrev pub ReadIsCustom : ReadError → Type 0
@@ -17,9 +17,9 @@ abbrev pub ReadGives : {X Y : Type 0} → (X → Y) → Bool → Result X ReadEr
 ReadGives view all_text (Ok x) r = r ≡ Some (view x)
 ReadGives view all_text (Err e) r = ReadRejects all_text e r
 
-abbrev pub ReadSpares : {Y : Type 0} → ReadError → Option Y → Type 0
-ReadSpares e r = Spares (error_of e) r
+abbrev pub ReadRunsOutOnlyToReject : {Y : Type 0} → ReadError → Option Y → Type 0
+ReadRunsOutOnlyToReject e r = RunsOutOnlyToReject (error_of e) r
 
 abbrev pub ReadIsFrugal : {X Y : Type 0} → Result X ReadError → Option Y → Type 0
 ReadIsFrugal (Ok x) r = ⊤
-ReadIsFrugal (Err e) r = ReadSpares e r
+ReadIsFrugal (Err e) r = ReadRunsOutOnlyToReject e r

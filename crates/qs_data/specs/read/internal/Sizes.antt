@@ -18,7 +18,7 @@ abbrev mutual
 
   pub entries_size : Entries → ℕ
   entries_size no_entries = 0
-  entries_size (entry k mark t es) = tree_size t + entries_size es
+  entries_size (entry k escaped t es) = tree_size t + entries_size es
 
 abbrev pub list_size : List (Option Tree) → ℕ
 list_size [] = 0

@@ -1,8 +1,8 @@
 -- What a map under construction holds after a step.
-use Rattle.qs_tree.proofs.Common.{◌≡◌, ℕ, List, [], ◌∷◌, ◌++◌, slice_get, Option, Some, None, option_map, unwrap_or, Result, Ok, Err, Ordering, Less, Equal, Greater, refl, sym, ap, ◌∙◌, rules, Global, AllByRecursion, IsStrictlySortedBy, keys_of, lookup, set_value, ordering_reverse, is_at, insert_entry, BTreeMap, Tree, Entries, uninitialized, compare_segments, update, Key, TreeBuilder, AddError, key_cmp, AddGives, IsHit, IsGap, put_value, segment_of_key, marked_segment_of_key, value_at_key, built_tree, built_entries, entries_seen, entries_held, as_builders, fresh, child, Takes, total-law}
+use Rattle.qs_tree.proofs.Common.{◌≡◌, ℕ, List, [], ◌∷◌, ◌++◌, slice_get, Option, Some, None, option_map, unwrap_or, Result, Ok, Err, Ordering, Less, Equal, Greater, refl, sym, ap, ◌∙◌, rules, Global, AllByRecursion, IsStrictlySortedBy, keys_of, lookup, set_value, ordering_reverse, is_at, insert_entry, BTreeMap, Tree, Entries, uninitialized, compare_segments, update, Key, TreeBuilder, AddError, key_cmp, AddGives, IsHit, IsGap, put_value, segment_of_key, parsed_segment_of_key, value_at_key, built_tree, built_entries, entries_seen, entries_held, as_builders, fresh, child, Takes, total-law}
 use Rattle.qs_spec.proofs.GoodParts.{all_to}
 use Rattle.qs_tree.specs.declared.build.builder.MapBuilder.{the_lemmas}
-use Rattle.qs_tree.specs.declared.build.builder.MapBuilder.TheVariants as form
+use Rattle.qs_tree.specs.declared.build.builder.MapBuilder.TheVariants as is_form
 use Rattle.qs_tree.proofs.lemmas.tree.Keys.{Held, seen_view, seen-lookup, key_cmp-segments}
 use Rattle.qs_tree.proofs.lemmas.tree.Ordered.{ordered_seen}
 use Rattle.qs_tree.proofs.lemmas.tree.Places.{hit_lookup, gap_lookup, hit_set}
@@ -12,10 +12,10 @@ use Rattle.qs_tree.proofs.lemmas.Views.{built_tree-Value, built_tree-fresh}
 abbrev Unfinished : Type 0
 Unfinished = List (Key × TreeBuilder)
 
-pub built_entries-Vector : (es : Unfinished) → built_entries (form.Vector es) ≡ entries_seen es
+pub built_entries-Vector : (es : Unfinished) → built_entries (is_form.Vector es) ≡ entries_seen es
 built_entries-Vector es = search (rules, the_lemmas)
 
-pub built_entries-Tree : (m : BTreeMap Key TreeBuilder Global) → built_entries (form.Tree m) ≡ entries_seen m.entries
+pub built_entries-Tree : (m : BTreeMap Key TreeBuilder Global) → built_entries (is_form.Tree m) ≡ entries_seen m.entries
 built_entries-Tree m = search (rules, the_lemmas)
 
 pub seen-builders : (es : Held) → entries_seen (as_builders es) ≡ entries_held es
@@ -25,12 +25,12 @@ seen-builders (e ∷ es) = rw (built_tree-Value e.1, seen-builders es)
 pub ruleset forms = (built_entries-Vector, built_entries-Tree)
 
 module _ {X : Type 0} (seen : X → Tree) (k : Key) where
-  pub inserted : (es : List (Key × X)) (v : X) → update (marked_segment_of_key k) (λ _. Some (seen v)) (seen_view seen es) ≡ Some (seen_view seen (insert_entry key_cmp es k v))
+  pub inserted : (es : List (Key × X)) (v : X) → update (parsed_segment_of_key k) (λ _. Some (seen v)) (seen_view seen es) ≡ Some (seen_view seen (insert_entry key_cmp es k v))
   inserted [] v = refl
   inserted (e ∷ es) v = by (inserted es v) (key_cmp k e.0) refl
     where
-      by : update (marked_segment_of_key k) (λ _. Some (seen v)) (seen_view seen es) ≡ Some (seen_view seen (insert_entry key_cmp es k v)) → (o : Ordering) → key_cmp k e.0 ≡ o
-          → update (marked_segment_of_key k) (λ _. Some (seen v)) (seen_view seen (e ∷ es)) ≡ Some (seen_view seen (insert_entry key_cmp (e ∷ es) k v))
+      by : update (parsed_segment_of_key k) (λ _. Some (seen v)) (seen_view seen es) ≡ Some (seen_view seen (insert_entry key_cmp es k v)) → (o : Ordering) → key_cmp k e.0 ≡ o
+          → update (parsed_segment_of_key k) (λ _. Some (seen v)) (seen_view seen (e ∷ es)) ≡ Some (seen_view seen (insert_entry key_cmp (e ∷ es) k v))
       by more Greater d = rw (← key_cmp-segments k e.0, d, more)
       by more o d = rw (← key_cmp-segments k e.0, d)
 
@@ -41,16 +41,16 @@ module _ {X : Type 0} (seen : X → Tree) (k : Key) where
 
   -- the value at the key doesn't matter where another is put there
   pub put_again : (es : List (Key × X)) (w : X) (u : Tree) → IsStrictlySortedBy key_cmp (keys_of es)
-      → update (marked_segment_of_key k) (λ _. Some u) (seen_view seen (set_value (is_at (key_cmp k)) es w)) ≡ update (marked_segment_of_key k) (λ _. Some u) (seen_view seen es)
+      → update (parsed_segment_of_key k) (λ _. Some u) (seen_view seen (set_value (is_at (key_cmp k)) es w)) ≡ update (parsed_segment_of_key k) (λ _. Some u) (seen_view seen es)
   unfolding IsStrictlySortedBy
   put_again [] w u h = refl
   put_again (e ∷ es) w u h = by (put_again es w u h.1) (key_cmp k e.0) refl
     where
-      by : update (marked_segment_of_key k) (λ _. Some u) (seen_view seen (set_value (is_at (key_cmp k)) es w)) ≡ update (marked_segment_of_key k) (λ _. Some u) (seen_view seen es) → (o : Ordering) → key_cmp k e.0 ≡ o
-          → update (marked_segment_of_key k) (λ _. Some u) (seen_view seen (set_value (is_at (key_cmp k)) (e ∷ es) w)) ≡ update (marked_segment_of_key k) (λ _. Some u) (seen_view seen (e ∷ es))
-      by more Less d = let before : compare_segments (marked_segment_of_key k).seg (segment_of_key e.0) ≡ Less = d in rw (d, before, none_set es w (all_to _ _ (λ y. total-law.trans k e.0 y d) (keys_of es) h.0))
-      by more Equal d = let same : compare_segments (marked_segment_of_key k).seg (segment_of_key e.0) ≡ Equal = d in rw (d, same)
-      by more Greater d = let after : compare_segments (marked_segment_of_key k).seg (segment_of_key e.0) ≡ Greater = d in rw (d, after, more)
+      by : update (parsed_segment_of_key k) (λ _. Some u) (seen_view seen (set_value (is_at (key_cmp k)) es w)) ≡ update (parsed_segment_of_key k) (λ _. Some u) (seen_view seen es) → (o : Ordering) → key_cmp k e.0 ≡ o
+          → update (parsed_segment_of_key k) (λ _. Some u) (seen_view seen (set_value (is_at (key_cmp k)) (e ∷ es) w)) ≡ update (parsed_segment_of_key k) (λ _. Some u) (seen_view seen (e ∷ es))
+      by more Less d = let before : compare_segments (parsed_segment_of_key k).segment (segment_of_key e.0) ≡ Less = d in rw (d, before, none_set es w (all_to _ _ (λ y. total-law.trans k e.0 y d) (keys_of es) h.0))
+      by more Equal d = let same : compare_segments (parsed_segment_of_key k).segment (segment_of_key e.0) ≡ Equal = d in rw (d, same)
+      by more Greater d = let after : compare_segments (parsed_segment_of_key k).segment (segment_of_key e.0) ≡ Greater = d in rw (d, after, more)
 
 -- the node at a key is taken out of a vector
 module _ (k : Key) (es : Unfinished) (i : ℕ) where
@@ -79,11 +79,11 @@ module _ {X : Type 0} (seen : X → Tree) (empty : X) (none : seen empty ≡ uni
   there = ap seen lent ∙ or_empty _ ∙ ap (λ o. unwrap_or o uninitialized) (seen-lookup seen k es)
 
   pub at_key : {A : Type 0} (before after : Entries) → seen_view seen es ≡ before → (f : Tree → Option Tree) (new : X) → seen_view seen (insert_entry key_cmp es k new) ≡ after
-      → (r : Result A AddError) → AddGives (λ _. seen new) (f (seen old)) r → AddGives (λ _. after) (update (marked_segment_of_key k) f before) r
+      → (r : Result A AddError) → AddGives (λ _. seen new) (f (seen old)) r → AddGives (λ _. after) (update (parsed_segment_of_key k) f before) r
   at_key before after was f new is (Ok a) h = rw (← was)
-      (put_there (marked_segment_of_key k) f (seen_view seen es) (ordered_seen seen es sorted) (seen old) there (seen_view seen es) after (seen new) h (λ u. refl) (inserted seen k es new ∙ ap Some is))
+      (put_there (parsed_segment_of_key k) f (seen_view seen es) (ordered_seen seen es sorted) (seen old) there (seen_view seen es) after (seen new) h (λ u. refl) (inserted seen k es new ∙ ap Some is))
   at_key before after was f new is (Err e) h = rw (← was)
-      (rejected_too (f (seen old)) _ e (rejected_there (marked_segment_of_key k) f (seen_view seen es) (ordered_seen seen es sorted) (seen old) there) h)
+      (rejected_too (f (seen old)) _ e (rejected_there (parsed_segment_of_key k) f (seen_view seen es) (ordered_seen seen es sorted) (seen old) there) h)
 
 -- a key above all of some entries goes to their end
 module _ (k : Key) (ks : List Key) where

@@ -1,5 +1,5 @@
 -- The finished entries, those in frames and those that are left make the whole tree.
-use Rattle.qs_tree.proofs.Common.{built_tree, ◌≡◌, ℕ, ◌+◌, List, [], ◌∷◌, ◌++◌, refl, sym, ap, ◌∙◌, arith, IsStrictlySortedBy, keys_of, into_iter_items, Tree, Entries, mapping, Key, ParsedValue, TreeBuilder, Frame, key_cmp, tree_of, entries_from, entries_seen, built_pairs, level_pairs, with_node, entries_map_count, maps_left, IsOpened, key_trees}
+use Rattle.qs_tree.proofs.Common.{built_tree, ◌≡◌, ℕ, ◌+◌, List, [], ◌∷◌, ◌++◌, refl, sym, ap, ◌∙◌, arith, IsStrictlySortedBy, keys_of, into_iter_items, Tree, Entries, mapping, Key, ParsedValue, TreeBuilder, OuterLevel, key_cmp, tree_of, entries_from, entries_seen, built_pairs, level_pairs, with_node, entries_map_count, maps_left, IsOpened, key_trees}
 use Rattle.std.proofs.lemmas.Map.Made.{keys_of-map_values}
 use Rattle.qs_tree.specs.declared.build.finishing.Level.{Level}
 use Rattle.qs_tree.proofs.lemmas.tree.Places.{sorted_upto, keys-append}
@@ -29,47 +29,47 @@ is_opened level es whole none left seen sorted =
     }
 
 -- the keys of a frame are sorted, whatever node is at its key
-abbrev pub IsInOrder : Frame → Type 0
+abbrev pub IsInOrder : OuterLevel → Type 0
 IsInOrder w = (t : Tree) → IsStrictlySortedBy key_cmp (keys_of (with_node w t))
 
-pub in_order : (w : Frame) (t : Tree) → IsStrictlySortedBy key_cmp (keys_of (with_node w t)) → IsInOrder w
+pub in_order : (w : OuterLevel) (t : Tree) → IsStrictlySortedBy key_cmp (keys_of (with_node w t)) → IsInOrder w
 in_order w t sorted u =
     rw (keys-key_trees w.level.done ((w.key, u) ∷ built_pairs (into_iter_items w.level.left))) (rw (keys-key_trees w.level.done ((w.key, t) ∷ built_pairs (into_iter_items w.level.left))) at sorted)
 
 -- the levels that wait, from the outermost to the innermost
-abbrev pub AreInOrder : List Frame → Type 0
+abbrev pub AreInOrder : List OuterLevel → Type 0
 AreInOrder [] = Unit {0}
 AreInOrder (w ∷ ws) = IsInOrder w × AreInOrder ws
 
 -- the entries of the outermost, where the map that the innermost waits for has these
-abbrev pub whole : List Frame → Entries → Entries
+abbrev pub whole : List OuterLevel → Entries → Entries
 whole [] es = es
 whole (w ∷ ws) es = entries_from (with_node w (mapping (whole ws es)))
 
 -- how many of their maps aren't finished
-abbrev pub maps_on_stack : List Frame → ℕ
+abbrev pub maps_on_stack : List OuterLevel → ℕ
 maps_on_stack [] = 0
 maps_on_stack (w ∷ ws) = maps_left w.level + maps_on_stack ws
 
-module _ (w : Frame) where
-  pub whole-last : (ws : List Frame) (es : Entries) → whole (ws ++ w ∷ []) es ≡ whole ws (entries_from (with_node w (mapping es)))
+module _ (w : OuterLevel) where
+  pub whole-last : (ws : List OuterLevel) (es : Entries) → whole (ws ++ w ∷ []) es ≡ whole ws (entries_from (with_node w (mapping es)))
   whole-last [] es = refl
   whole-last (v ∷ ws) es = ap (λ t. entries_from (with_node v (mapping t))) (whole-last ws es)
 
-  pub in_order-last : (ws : List Frame) → AreInOrder ws → IsInOrder w → AreInOrder (ws ++ w ∷ [])
+  pub in_order-last : (ws : List OuterLevel) → AreInOrder ws → IsInOrder w → AreInOrder (ws ++ w ∷ [])
   in_order-last [] all one = (one, tt)
   in_order-last (v ∷ ws) all one = (all.0, in_order-last ws all.1 one)
 
-  pub last_in_order : (ws : List Frame) → AreInOrder (ws ++ w ∷ []) → AreInOrder ws × IsInOrder w
+  pub last_in_order : (ws : List OuterLevel) → AreInOrder (ws ++ w ∷ []) → AreInOrder ws × IsInOrder w
   last_in_order [] all = (tt, all.0)
   last_in_order (v ∷ ws) all = let more = last_in_order ws all.1 in ((all.0, more.0), more.1)
 
-  pub maps_on_stack-last : (ws : List Frame) → maps_on_stack (ws ++ w ∷ []) ≡ maps_on_stack ws + maps_left w.level
+  pub maps_on_stack-last : (ws : List OuterLevel) → maps_on_stack (ws ++ w ∷ []) ≡ maps_on_stack ws + maps_left w.level
   maps_on_stack-last [] = omega arith
   maps_on_stack-last (v ∷ ws) = omega (arith, maps_on_stack-last ws)
 
   -- a map is taken out of a level, which waits for it
-  pub taken : (ws : List Frame) (level inner : Level) (es total : Entries) → with_node w (mapping es) ≡ level_pairs level → IsOpened es inner → whole ws (entries_from (level_pairs level)) ≡ total
+  pub taken : (ws : List OuterLevel) (level inner : Level) (es total : Entries) → with_node w (mapping es) ≡ level_pairs level → IsOpened es inner → whole ws (entries_from (level_pairs level)) ≡ total
       → whole (ws ++ w ∷ []) (entries_from (level_pairs inner)) ≡ total
   taken ws level inner es total same opened all =
       whole-last ws (entries_from (level_pairs inner))
@@ -78,7 +78,7 @@ module _ (w : Frame) where
       ∙ all
 
   -- a level is finished, and its frame goes on
-  pub put_back : (ws : List Frame) (level outer : Level) (es total : Entries) → level_pairs outer ≡ with_node w (mapping es) → es ≡ entries_from (level_pairs level) → whole (ws ++ w ∷ []) (entries_from (level_pairs level)) ≡ total
+  pub put_back : (ws : List OuterLevel) (level outer : Level) (es total : Entries) → level_pairs outer ≡ with_node w (mapping es) → es ≡ entries_from (level_pairs level) → whole (ws ++ w ∷ []) (entries_from (level_pairs level)) ≡ total
       → whole ws (entries_from (level_pairs outer)) ≡ total
   put_back ws level outer es total same done all =
       ap (λ ps. whole ws (entries_from ps)) (same ∙ ap (λ l. with_node w (mapping l)) done)

@@ -1,5 +1,5 @@
 -- One item of what is left, and the pairs after it.
-use Rattle.qs_tree.proofs.Common.{inl, inr, cases_Bool, ◌≡◌, ℕ, zero, suc, Bool, true, false, ◌&&◌, ◌==◌, List, [], ◌∷◌, ◌++◌, length, refl, sym, ap, ◌∙◌, subst, arith, Option, Some, None, Result, Ok, Err, option_map, eqb-true, length-append, IsErrAnd, Kind, Token, tokens, raw_of, Amp, Equals, Open, marked_segment_of, Pair, direct, root, is_amp, ends_root, Rest, cut, cut_at, with_leaf, value_at, parsed_brackets, after_root, after_root_at, named, parsed_pairs, and_pairs, and_both, pair_of, kind_of_token, token_of, from_token, left, IsPast, is_nothing, IsParseError, ParsesPair, ParsesItem, root_path, from_root, from_root_at}
+use Rattle.qs_tree.proofs.Common.{inl, inr, cases_Bool, ◌≡◌, ℕ, zero, suc, Bool, true, false, ◌&&◌, ◌==◌, List, [], ◌∷◌, ◌++◌, length, refl, sym, ap, ◌∙◌, subst, arith, Option, Some, None, Result, Ok, Err, option_map, eqb-true, length-append, IsErrAnd, TokenKind, Token, tokens, raw_of, Amp, Equals, Open, parsed_segment_of, Pair, assigned, root, is_amp, ends_root, Rest, cut, cut_at, with_leaf, value_at, parsed_brackets, after_root, after_root_at, named, parsed_pairs, and_pairs, and_both, pair_of, kind_of_token, token_of, from_token, left, IsPast, is_nothing, IsParseError, ParsesPair, ParsesItem, root_path, from_root, from_root_at}
 use Rattle.qs_spec.specs.Leaf.{NoValue}
 use Rattle.qs_spec.proofs.ReadOn.{after_ampersand, after_pair}
 use Rattle.qs_tree.specs.declared.scan.cursor.Token as code
@@ -14,7 +14,7 @@ use Rattle.qs_tree.proofs.lemmas.scan.Values.{is_amp_of}
 not_empty : (t : Token) (more : List ℕ) → HasBytes (t ∷ []) → (length (t.raw ++ more) == 0) ≡ true → ⊥
 not_empty t more h e = let w = eqb-true (length (t.raw ++ more)) 0 e in absurd (omega (arith, ap length h.2, length-append t.raw more))
 
-amp_ends : (depth : ℕ) (k : Kind) → is_amp k ≡ true → ends_root depth k ≡ true
+amp_ends : (depth : ℕ) (k : TokenKind) → is_amp k ≡ true → ends_root depth k ≡ true
 amp_ends zero Amp e = refl
 amp_ends (suc depth) Amp e = refl
 amp_ends depth k e = cc
@@ -47,7 +47,7 @@ module _ (depth : ℕ) where
   -- a root key as raw bytes
   root_is : (key : List Token) → HasBytes key → root key ≡ root_path (raw_of key)
   root_is [] h = refl
-  root_is (t ∷ key) h = subst (λ raw. marked_segment_of (raw ++ raw_of key) ∷ [] ≡ root_path (raw ++ raw_of key)) (sym h.2) refl
+  root_is (t ∷ key) h = subst (λ raw. parsed_segment_of (raw ++ raw_of key) ∷ [] ≡ root_path (raw ++ raw_of key)) (sym h.2) refl
 
   cut_bytes : (ts : List Token) → HasBytes ts → HasBytes (cut (ends_root depth) ts).0
   cut_bytes [] h = tt
@@ -56,17 +56,17 @@ module _ (depth : ℕ) where
   -- after a root key that isn't nothing
   after_key : (key : List Token) (stop : Option code.Token) (rest : List Token) → HasBytes key → is_nothing (raw_of key) stop ≡ false → after_root depth key (from_token stop rest) ≡ from_root depth (raw_of key) (from_token stop rest)
   after_key [] None rest h e = cc
-  after_key (t ∷ key) None rest h e = ap (λ p. Some (direct p NoValue, [])) (root_is (t ∷ key) h)
+  after_key (t ∷ key) None rest h e = ap (λ p. Some (assigned p NoValue, [])) (root_is (t ∷ key) h)
   after_key key (Some u) rest h e = by (kind_of_token u.kind) refl key h e
     where
-      named_is : (key : List Token) → HasBytes key → (length (raw_of key) == 0 && true) ≡ false → named key (token_of u ∷ rest) ≡ Some (direct (root_path (raw_of key)) NoValue, token_of u ∷ rest)
+      named_is : (key : List Token) → HasBytes key → (length (raw_of key) == 0 && true) ≡ false → named key (token_of u ∷ rest) ≡ Some (assigned (root_path (raw_of key)) NoValue, token_of u ∷ rest)
       named_is [] h e = cc
-      named_is (t ∷ key) h e = ap (λ p. Some (direct p NoValue, token_of u ∷ rest)) (root_is (t ∷ key) h)
+      named_is (t ∷ key) h e = ap (λ p. Some (assigned p NoValue, token_of u ∷ rest)) (root_is (t ∷ key) h)
 
-      by : (k : Kind) → kind_of_token u.kind ≡ k → (key : List Token) → HasBytes key → (length (raw_of key) == 0 && is_amp (kind_of_token u.kind)) ≡ false
+      by : (k : TokenKind) → kind_of_token u.kind ≡ k → (key : List Token) → HasBytes key → (length (raw_of key) == 0 && is_amp (kind_of_token u.kind)) ≡ false
           → after_root_at k depth key (token_of u) rest ≡ from_root_at k depth (root_path (raw_of key)) (token_of u) rest
-      by Amp d key h e = named_is key h (sym (ap (λ k. length (raw_of key) == 0 && is_amp k) d) ∙ e) ∙ sym (ap (λ k. with_leaf (direct (root_path (raw_of key))) (value_at k (token_of u) rest)) d)
-      by Equals d key h e = ap (λ p. with_leaf (direct p) (value_at Equals (token_of u) rest)) (root_is key h) ∙ sym (ap (λ k. with_leaf (direct (root_path (raw_of key))) (value_at k (token_of u) rest)) d)
+      by Amp d key h e = named_is key h (sym (ap (λ k. length (raw_of key) == 0 && is_amp k) d) ∙ e) ∙ sym (ap (λ k. with_leaf (assigned (root_path (raw_of key))) (value_at k (token_of u) rest)) d)
+      by Equals d key h e = ap (λ p. with_leaf (assigned p) (value_at Equals (token_of u) rest)) (root_is key h) ∙ sym (ap (λ k. with_leaf (assigned (root_path (raw_of key))) (value_at k (token_of u) rest)) d)
       by Open d key h e = ap (λ p. parsed_brackets depth p u.raw.now rest) (root_is key h)
       by k d key h e = refl
 
@@ -89,7 +89,7 @@ module _ (depth : ℕ) where
 
   -- after a pair there are the pairs of what is left
   past_pairs : (rest : List Token) (new : cursor.Cursor) → IsPast rest new → parsed_pairs depth rest ≡ parsed_pairs depth (left new)
-  past_pairs [] new h = sym (ap (λ l. parsed_pairs depth (tokens new.form l)) h)
+  past_pairs [] new h = sym (ap (λ l. parsed_pairs depth (tokens new.is_form l)) h)
   past_pairs (t ∷ ts) new h = after_ampersand depth t ts h.0 ∙ ap (parsed_pairs depth) h.1
 
   pub pair_item : (ts : List Token) (found : Rest Pair) (a : Unit {0}) (new : cursor.Cursor) (p : code_pair.Pair) → parsed_pairs depth ts ≡ and_pairs depth found → ParsesPair found (Ok a) new p → ParsesItem depth ts (Ok item.TheVariants.Pair) new p

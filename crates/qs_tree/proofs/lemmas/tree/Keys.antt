@@ -1,5 +1,5 @@
 -- The order of keys, and what a map finds, seen as segments and trees.
-use Rattle.qs_tree.proofs.Common.{◌≡◌, ℕ, zero, suc, slice_get, length, List, [], ◌∷◌, Option, Some, None, option_map, Bor, refl, ap, ◌∙◌, sym, inl, inr, rules, map, cases_Bool, lookup, remove_entry, is_at, MarkedSegment, compare_segments, is_same_segment, Tree, Entries, Key, ParsedValue, the_lemmas, ParsedMap, key_cmp, segment_of_key, marked_segment_of_key, tree_of, entries_from, entries_of_map, map_pairs, entry_list, value_at_key, take_out}
+use Rattle.qs_tree.proofs.Common.{◌≡◌, ℕ, zero, suc, slice_get, length, List, [], ◌∷◌, Option, Some, None, option_map, Bor, refl, ap, ◌∙◌, sym, inl, inr, rules, map, cases_Bool, lookup, remove_entry, is_at, ParsedSegment, compare_segments, is_same_segment, Tree, Entries, Key, ParsedValue, the_lemmas, ParsedMap, key_cmp, segment_of_key, parsed_segment_of_key, tree_of, entries_from, entries_of_map, map_pairs, entry_list, value_at_key, take_out}
 
 abbrev pub Held : Type 0
 Held = List (Key × ParsedValue)
@@ -37,7 +37,7 @@ pub mapped_twice : {A B C : Type 0} (f : A → B) (g : B → C) (o : Option A) �
 mapped_twice f g None = refl
 mapped_twice f g (Some a) = refl
 
-abbrev pub pairs_view : Held → List (MarkedSegment × Tree)
+abbrev pub pairs_view : Held → List (ParsedSegment × Tree)
 pairs_view es = entry_list (entries_view es)
 
 pub map_pairs-map : (m : ParsedMap) → map_pairs m ≡ pairs_view m.map
@@ -52,8 +52,8 @@ pub ruleset lengths = (map_pairs-map, length-pairs_view)
 abbrev Shown : Type 0
 Shown = Bor Key × Bor ParsedValue
 
-abbrev pair_seen : Key × ParsedValue → MarkedSegment × Tree
-pair_seen p = (marked_segment_of_key p.0, tree_of p.1)
+abbrev pair_seen : Key × ParsedValue → ParsedSegment × Tree
+pair_seen p = (parsed_segment_of_key p.0, tree_of p.1)
 
 abbrev deref : Shown → Key × ParsedValue
 deref p = (p.0.now, p.1.now)

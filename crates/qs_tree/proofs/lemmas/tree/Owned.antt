@@ -1,46 +1,46 @@
--- A value owns the strings that are marked in its tree.
-use Rattle.qs_tree.proofs.Common.{◌≡◌, List, [], ◌∷◌, ◌++◌, refl, ap₂, subst, rules, map, Borrowed, key_marks, marks, items_marks, entries_marks, Key, ParsedValue, the_lemmas, ind-ParsedValue, roll-ParsedValue, roll-ParsedMap, ParsedMap, segment_of_key, key_mark, tree_of, items_of, entries_of_map, key_owns, items_own, entries_own, owns, map_owns}
+-- A value owns the strings that are escaped in its tree.
+use Rattle.qs_tree.proofs.Common.{◌≡◌, List, [], ◌∷◌, ◌++◌, refl, ap₂, subst, rules, map, Borrowed, key_escapes, escapes, item_escapes, entry_escapes, Key, ParsedValue, the_lemmas, ind-ParsedValue, roll-ParsedValue, roll-ParsedMap, ParsedMap, segment_of_key, is_owned_key, tree_of, items_of, entries_of_map, key_owns, items_own, entries_own, owns, map_owns}
 use Rattle.qs_tree.specs.declared.tree.key.Key.TheVariants as key
 use Rattle.qs_tree.specs.declared.tree.value.ParsedValue.TheFolds.{map-ParsedValue, map-ParsedMap}
 use Rattle.qs_tree.specs.declared.tree.value.ParsedValue.TheOpen.{ParsedValue-F, ParsedMap-F}
 use Rattle.qs_tree.proofs.lemmas.tree.Keys.{entries_view, entries_of_map-map}
 
-abbrev IsMarked : ParsedValue → Type 0
-IsMarked v = owns v ≡ marks (tree_of v)
+abbrev OwnsEscaped : ParsedValue → Type 0
+OwnsEscaped v = owns v ≡ escapes (tree_of v)
 
-abbrev AreMarked : ParsedMap → Type 0
-AreMarked m = map_owns m ≡ entries_marks (entries_of_map m)
+abbrev OwnEscaped : ParsedMap → Type 0
+OwnEscaped m = map_owns m ≡ entry_escapes (entries_of_map m)
 
-key_marked : (k : Key) → key_owns k ≡ key_marks (segment_of_key k) (key_mark k)
-key_marked (key.String (Borrowed r)) = refl
-key_marked k = refl
+key_escaped : (k : Key) → key_owns k ≡ key_escapes (segment_of_key k) (is_owned_key k)
+key_escaped (key.String (Borrowed r)) = refl
+key_escaped k = refl
 
-items_marked : (vs : List ((v : ParsedValue) × IsMarked v)) → items_own (map owns (map (λ e. e.0) vs)) ≡ items_marks (items_of (map (λ e. e.0) vs))
-items_marked [] = refl
-items_marked (v ∷ vs) = ap₂ ◌++◌ v.1 (items_marked vs)
+items_escaped : (vs : List ((v : ParsedValue) × OwnsEscaped v)) → items_own (map owns (map (λ e. e.0) vs)) ≡ item_escapes (items_of (map (λ e. e.0) vs))
+items_escaped [] = refl
+items_escaped (v ∷ vs) = ap₂ ◌++◌ v.1 (items_escaped vs)
 
-abbrev bare : Key × ((v : ParsedValue) × IsMarked v) → Key × ParsedValue
-bare p = (p.0, p.1.0)
+abbrev without_proof : Key × ((v : ParsedValue) × OwnsEscaped v) → Key × ParsedValue
+without_proof p = (p.0, p.1.0)
 
-entries_marked : (es : List (Key × ((v : ParsedValue) × IsMarked v))) → entries_own (map (λ p. (p.0, owns p.1)) (map bare es)) ≡ entries_marks (entries_view (map bare es))
-entries_marked [] = refl
-entries_marked (e ∷ es) = ap₂ ◌++◌ (key_marked e.0) (ap₂ ◌++◌ e.1.1 (entries_marked es))
+entries_escaped : (es : List (Key × ((v : ParsedValue) × OwnsEscaped v))) → entries_own (map (λ p. (p.0, owns p.1)) (map without_proof es)) ≡ entry_escapes (entries_view (map without_proof es))
+entries_escaped [] = refl
+entries_escaped (e ∷ es) = ap₂ ◌++◌ (key_escaped e.0) (ap₂ ◌++◌ e.1.1 (entries_escaped es))
 
 map_owns-map : (m : ParsedMap) → map_owns m ≡ entries_own (map (λ p. (p.0, owns p.1)) m.map)
 map_owns-map m = search (rules, the_lemmas)
 
-layer_marked : (y : ParsedValue-F ((v : ParsedValue) × IsMarked v) ((m : ParsedMap) × AreMarked m)) → IsMarked (roll-ParsedValue (map-ParsedValue _ _ ParsedValue ParsedMap (λ e. e.0) (λ e. e.0) y))
-layer_marked (ParsedValue-F.Map m) = search (rules, the_lemmas, m.1)
-layer_marked (ParsedValue-F.Sequence v) = search (rules, the_lemmas, items_marked v.items)
-layer_marked (ParsedValue-F.String (Borrowed t)) = search (rules, the_lemmas)
-layer_marked y = search (rules, the_lemmas)
+layer_escaped : (y : ParsedValue-F ((v : ParsedValue) × OwnsEscaped v) ((m : ParsedMap) × OwnEscaped m)) → OwnsEscaped (roll-ParsedValue (map-ParsedValue _ _ ParsedValue ParsedMap (λ e. e.0) (λ e. e.0) y))
+layer_escaped (ParsedValue-F.Map m) = search (rules, the_lemmas, m.1)
+layer_escaped (ParsedValue-F.Sequence v) = search (rules, the_lemmas, items_escaped v.items)
+layer_escaped (ParsedValue-F.String (Borrowed t)) = search (rules, the_lemmas)
+layer_escaped y = search (rules, the_lemmas)
 
-map_marked : (y : ParsedMap-F ((v : ParsedValue) × IsMarked v) ((m : ParsedMap) × AreMarked m)) → AreMarked (roll-ParsedMap (map-ParsedMap _ _ ParsedValue ParsedMap (λ e. e.0) (λ e. e.0) y))
-map_marked y =
+map_escaped : (y : ParsedMap-F ((v : ParsedValue) × OwnsEscaped v) ((m : ParsedMap) × OwnEscaped m)) → OwnEscaped (roll-ParsedMap (map-ParsedMap _ _ ParsedValue ParsedMap (λ e. e.0) (λ e. e.0) y))
+map_escaped y =
     let m : ParsedMap = roll-ParsedMap (map-ParsedMap _ _ ParsedValue ParsedMap (λ e. e.0) (λ e. e.0) y) in
-    rw (map_owns-map m, entries_of_map-map m) (entries_marked y.map)
+    rw (map_owns-map m, entries_of_map-map m) (entries_escaped y.map)
 
-pub owns_marked : (v : ParsedValue) → owns v ≡ marks (tree_of v)
-owns_marked = ind-ParsedValue IsMarked AreMarked
-    (λ x y same. subst (λ z. IsMarked (roll-ParsedValue z)) same (layer_marked y))
-    (λ x y same. subst (λ z. AreMarked (roll-ParsedMap z)) same (map_marked y))
+pub owns_escaped : (v : ParsedValue) → owns v ≡ escapes (tree_of v)
+owns_escaped = ind-ParsedValue OwnsEscaped OwnEscaped
+    (λ x y same. subst (λ z. OwnsEscaped (roll-ParsedValue z)) same (layer_escaped y))
+    (λ x y same. subst (λ z. OwnEscaped (roll-ParsedMap z)) same (map_escaped y))

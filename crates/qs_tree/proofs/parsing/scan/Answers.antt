@@ -1,6 +1,6 @@
-use Rattle.qs_tree.proofs.Common.{Ok, ◌∙◌, sym, subst, arith, refl, ap, length, built_tree, pair_of, left, to_come, IsEnd, IsMore, ParsesItem, ParsesSmall}
+use Rattle.qs_tree.proofs.Common.{Ok, ◌∙◌, sym, subst, arith, refl, ap, length, built_tree, pair_of, left, to_come, IsEnd, IsMore, ParsesItem, ParsesUnallocated}
 use Rattle.qs_tree.proofs.lemmas.Growing.{grown_same, grown_pair}
-use Rattle.qs_tree.proofs.lemmas.scan.SmallItems.{small_start, small_end, small_goes, small_ampersand, small_fresh, small_flat}
+use Rattle.qs_tree.proofs.lemmas.scan.UnallocatedItems.{unallocated_start, unallocated_end, unallocated_goes, unallocated_ampersand, unallocated_fresh, unallocated_leaves}
 use Rattle.qs_tree.proofs.parsing.scan.Goals as goal
 
 pub returns-in-End-clause-end : goal.returns-in-End-clause-end
@@ -9,7 +9,7 @@ returns-in-End-clause-end c =
     omega (arith, ap to_come ended, ap length (c.in-Ok.ensures.moves.end ended))
 
 pub returns-in-End-clause-no_allocation : goal.returns-in-End-clause-no_allocation
-returns-in-End-clause-no_allocation c = λ small fresh. small_flat c.loop-item.cursor.rest.now c.loop-item.tree (c.loop-item.invariant.small small fresh)
+returns-in-End-clause-no_allocation c = λ unallocated fresh. unallocated_leaves c.loop-item.cursor.rest.now c.loop-item.tree (c.loop-item.invariant.unallocated unallocated fresh)
 
 pub loop-item-preserved-in-Ampersand : goal.loop-item-preserved-in-Ampersand
 loop-item-preserved-in-Ampersand c =
@@ -25,8 +25,8 @@ loop-item-preserved-in-Ampersand c =
       fewer = omega (arith, shorter, before.fewer);
       steps = c.in-Ok.ensures.moves.steps ∙ before.steps;
       end = c.in-Ok.ensures.moves.end;
-      small = λ small fresh. small_ampersand old.rest.now new.rest.now c.loop-item.tree shorter (before.small small fresh)
-          (subst (λ i. ParsesSmall (Ok i) new pair) c.in-Ampersand.is (small_goes old.rest.now c.loop-item.tree (Ok c.in-Ok.item) new pair (before.small small fresh) c.in-Ok.ensures.small));
+      unallocated = λ unallocated fresh. unallocated_ampersand old.rest.now new.rest.now c.loop-item.tree shorter (before.unallocated unallocated fresh)
+          (subst (λ i. ParsesUnallocated (Ok i) new pair) c.in-Ampersand.is (unallocated_goes old.rest.now c.loop-item.tree (Ok c.in-Ok.item) new pair (before.unallocated unallocated fresh) c.in-Ok.ensures.unallocated));
     }
 
 pub loop-item-preserved : goal.loop-item-preserved
@@ -43,9 +43,9 @@ loop-item-preserved c =
       fewer = omega (arith, shorter, before.fewer);
       steps = c.in-Ok.ensures.moves.steps ∙ before.steps;
       end = c.in-Ok.ensures.moves.end;
-      small = λ small fresh.
-          let bare = subst (λ i. ParsesSmall (Ok i) new pair) c.in-Pair.is (small_goes old.rest.now c.loop-item.tree (Ok c.in-Ok.item) new pair (before.small small fresh) c.in-Ok.ensures.small) in
-          small_end new.rest.now c.add.new.tree bare.1 (c.in_ok-add-in-Pair.ensures.fresh bare.0 (small_fresh old.rest.now new.rest.now c.loop-item.tree shorter (before.small small fresh)));
+      unallocated = λ unallocated fresh.
+          let root_value = subst (λ i. ParsesUnallocated (Ok i) new pair) c.in-Pair.is (unallocated_goes old.rest.now c.loop-item.tree (Ok c.in-Ok.item) new pair (before.unallocated unallocated fresh) c.in-Ok.ensures.unallocated) in
+          unallocated_end new.rest.now c.add.new.tree root_value.1 (c.in_ok-add-in-Pair.ensures.fresh root_value.0 (unallocated_fresh old.rest.now new.rest.now c.loop-item.tree shorter (before.unallocated unallocated fresh)));
     }
 
 pub loop-item-init : goal.loop-item-init
@@ -54,5 +54,5 @@ loop-item-init c = record {
   fewer = omega arith;
   steps = refl;
   end = c.requires.end;
-  small = λ small fresh. small_start _ _ small fresh;
+  unallocated = λ unallocated fresh. unallocated_start _ _ unallocated fresh;
 }

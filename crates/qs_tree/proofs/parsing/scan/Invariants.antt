@@ -1,4 +1,4 @@
-use Rattle.qs_tree.proofs.Common.{◌≡◌, ◌≤◌, length, fresh, built_tree, left, in_all, KnowsEnd, grown, AllocatesNothing, StaysSmall}
+use Rattle.qs_tree.proofs.Common.{◌≡◌, ◌≤◌, length, fresh, built_tree, left, in_all, KnowsEnd, grown, AllocatesNothing, StaysUnallocated}
 use Rattle.qs_tree.proofs.parsing.scan.Given as goal
 
 -- the pairs that are left make of the tree what all pairs make of the first one
@@ -8,7 +8,7 @@ invariant-loop-item l = record {
   fewer : length l.cursor.rest.now ≤ length l.fn.cursor.rest.now;
   steps : in_all l.cursor ≡ in_all l.fn.cursor;
   end : KnowsEnd l.cursor;
-  small : AllocatesNothing l.fn.cursor.rest.now → l.fn.tree ≡ fresh → StaysSmall l.cursor.rest.now l.tree;
+  unallocated : AllocatesNothing l.fn.cursor.rest.now → l.fn.tree ≡ fresh → StaysUnallocated l.cursor.rest.now l.tree;
 }
 
 abbrev pub decreases-loop-item : goal.decreases-loop-item

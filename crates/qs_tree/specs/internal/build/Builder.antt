@@ -10,7 +10,7 @@ use Rattle.qs_tree.specs.declared.build.unsorted.Unsorted.{Unsorted}
 use Rattle.qs_tree.specs.declared.tree.key.Key.{Key}
 use Rattle.qs_tree.specs.declared.tree.value.ParsedValue.{ParsedValue}
 use Rattle.qs_tree.specs.declared.tree.value.ParsedValue.TheVariants.{Uninitialized}
-use Rattle.qs_tree.specs.tree.Views.{segment_of_key, marked_segment_of_key, tree_of, entries_from}
+use Rattle.qs_tree.specs.tree.Views.{segment_of_key, parsed_segment_of_key, tree_of, entries_from}
 use Rattle.qs_spec.specs.Node.{value_at_key}
 use Rattle.qs_tree.specs.tree.Ordered.{AreOrdered}
 use Rattle.qs_spec.specs.internal.InPlace.{update}
@@ -60,7 +60,7 @@ child s es = unwrap_or (value_at_key s es) uninitialized
 -- the node at a key is taken, and the other entries aren't changed
 pub record Takes (k : Key) (old : Entries) (taken : Tree) (new : Entries) : Type 0 where
   pub node : taken ≡ child (segment_of_key k) old
-  pub rest : (u : Tree) → update (marked_segment_of_key k) (λ _. Some u) new ≡ update (marked_segment_of_key k) (λ _. Some u) old
+  pub rest : (u : Tree) → update (parsed_segment_of_key k) (λ _. Some u) new ≡ update (parsed_segment_of_key k) (λ _. Some u) old
   pub ordered : AreOrdered old
 
 -- the node isn't a map
@@ -68,5 +68,5 @@ abbrev pub IsNoMap : Tree → Type 0
 IsNoMap (mapping es) = ⊥
 IsNoMap t = Unit {0}
 
-abbrev pub IsFlat : TreeBuilder → Type 0
-IsFlat node = IsNoMap (built_tree node)
+abbrev pub HasNoMap : TreeBuilder → Type 0
+HasNoMap node = IsNoMap (built_tree node)

@@ -8,7 +8,7 @@ use Rattle.qs_tree.specs.declared.tree.key.Key.{Key}
 use Rattle.qs_tree.specs.declared.build.builder.TreeBuilder.{TreeBuilder}
 use Rattle.qs_tree.specs.declared.build.builder.MapBuilder.{MapBuilder}
 use Rattle.qs_tree.specs.declared.build.finishing.Level.{Level}
-use Rattle.qs_tree.specs.declared.build.finishing.Frame.{Frame}
+use Rattle.qs_tree.specs.declared.build.finishing.OuterLevel.{OuterLevel}
 use Rattle.qs_tree.specs.tree.Keys.{key_cmp}
 use Rattle.qs_tree.specs.tree.Views.{entries_from}
 use Rattle.qs_tree.specs.internal.tree.KeyTrees.{key_trees}
@@ -32,7 +32,7 @@ from_map None level = []
 from_map (Some p) level = (p.0, mapping (built_entries p.1)) ∷ left_pairs level
 
 -- the entries of a frame's map, with a node at the key of the map below it
-abbrev pub with_node : Frame → Tree → List (Key × Tree)
+abbrev pub with_node : OuterLevel → Tree → List (Key × Tree)
 with_node w t = key_trees w.level.done ++ (w.key, t) ∷ left_pairs w.level
 
 -- how many maps there are
@@ -43,7 +43,7 @@ abbrev mutual
 
   pub entries_map_count : Entries → ℕ
   entries_map_count no_entries = 0
-  entries_map_count (entry k mark t es) = map_count t + entries_map_count es
+  entries_map_count (entry k escaped t es) = map_count t + entries_map_count es
 
 abbrev pub maps_among : List (Key × Tree) → ℕ
 maps_among ps = entries_map_count (entries_from ps)

@@ -1,7 +1,7 @@
 -- From the types of a pair to the types of the definitions.
 use Rattle.std.specs.Prelude.{◌≡◌, [], List, Bool, true, false, map, Option, Some, None}
 use Rattle.std.specs.declared.borrow.CowSlice.TheVariants.{Borrowed, Owned}
-use Rattle.qs_spec.specs.Segment.{MarkedSegment}
+use Rattle.qs_spec.specs.Segment.{ParsedSegment}
 use Rattle.qs_spec.specs.Leaf.{Leaf, NoValue, Null, Text}
 use Rattle.qs_spec.specs.Grammar as grammar
 use Rattle.qs_spec.specs.Tree.{Tree, leaf}
@@ -9,11 +9,11 @@ use Rattle.qs_tree.specs.declared.tree.key.Key.{Key}
 use Rattle.qs_tree.specs.declared.scan.pair.Leaf as code
 use Rattle.qs_tree.specs.declared.scan.pair.Leaf.TheVariants as variant
 use Rattle.qs_tree.specs.declared.scan.pair.Manner.{Manner}
-use Rattle.qs_tree.specs.declared.scan.pair.Manner.TheVariants.{Direct, Push}
+use Rattle.qs_tree.specs.declared.scan.pair.Manner.TheVariants.{Assign, Push}
 use Rattle.qs_tree.specs.declared.scan.pair.Pair.{Pair}
-use Rattle.qs_tree.specs.tree.Views.{marked_segment_of_key}
+use Rattle.qs_tree.specs.tree.Views.{parsed_segment_of_key}
 
--- an owned string is marked
+-- an owned string is escaped
 abbrev pub leaf_of : code.Leaf → Leaf
 leaf_of variant.NoValue = NoValue
 leaf_of variant.Null = Null
@@ -26,15 +26,15 @@ leaf_in (leaf l) = Some l
 leaf_in t = None
 
 abbrev pub is_push : Manner → Bool
-is_push Direct = false
+is_push Assign = false
 is_push Push = true
 
-abbrev pub path_of : List Key → List MarkedSegment
-path_of keys = map marked_segment_of_key keys
+abbrev pub path_of : List Key → List ParsedSegment
+path_of keys = map parsed_segment_of_key keys
 
 abbrev pub pair_of : Pair → grammar.Pair
 pair_of p = record { path = path_of p.path; push = is_push p.manner; leaf = leaf_of p.leaf }
 
--- a direct pair at the empty path
-abbrev pub IsBare : Pair → Type 0
-IsBare p = (p.path ≡ []) × (p.manner ≡ Direct)
+-- an assigned pair at the empty path
+abbrev pub IsRootValue : Pair → Type 0
+IsRootValue p = (p.path ≡ []) × (p.manner ≡ Assign)

@@ -1,9 +1,9 @@
 -- What the functions that parse a pair return.
 use Rattle.std.specs.Prelude.{◌≡◌, ℕ, List, [], ◌∷◌, ◌++◌, Option, Some, None, Result, Ok, Err, option_map, IsTrue, Bool, true, false, ◌&&◌, ◌==◌, length}
-use Rattle.qs_spec.specs.Token.{Kind, Token, Amp, Equals, Open, Close, Other}
-use Rattle.qs_spec.specs.Segment.{MarkedSegment, marked_segment_of}
+use Rattle.qs_spec.specs.Token.{TokenKind, Token, Amp, Equals, Open, Close, Other}
+use Rattle.qs_spec.specs.Segment.{ParsedSegment, parsed_segment_of}
 use Rattle.qs_spec.specs.Leaf.{Leaf}
-use Rattle.qs_spec.specs.Grammar.{Pair, is_amp, direct, ends_last, ends_root}
+use Rattle.qs_spec.specs.Grammar.{Pair, is_amp, assigned, ends_last, ends_root}
 use Rattle.qs_spec.specs.internal.Parsing.{Rest, with_leaf, parsed_value, parsed_brackets, parsed_pairs}
 use Rattle.qs_tree.specs.declared.scan.cursor.Token as token
 use Rattle.qs_tree.specs.declared.scan.cursor.Cursor as cursor
@@ -27,7 +27,7 @@ IsRootStop (Some t) = IsTrue (ends_root 1 (kind_of_token t.kind))
 
 -- the cursor is after this token, and hasn't reached the end
 abbrev pub Follows : token.Token → cursor.Cursor → Type 0
-Follows t c = (t.place.rest.now ≡ t.raw.now ++ c.rest.now) × (c.ended ≡ false)
+Follows t c = (t.position.rest.now ≡ t.raw.now ++ c.rest.now) × (c.ended ≡ false)
 
 -- the same, or it has reached the end
 abbrev pub FollowsStop : Option token.Token → cursor.Cursor → Type 0
@@ -73,18 +73,18 @@ is_nothing raw None = length raw == 0
 is_nothing raw (Some t) = length raw == 0 && is_amp (kind_of_token t.kind)
 
 -- the path of a root key with these raw bytes
-abbrev pub root_path : List ℕ → List MarkedSegment
+abbrev pub root_path : List ℕ → List ParsedSegment
 root_path [] = []
-root_path (b ∷ raw) = marked_segment_of (b ∷ raw) ∷ []
+root_path (b ∷ raw) = parsed_segment_of (b ∷ raw) ∷ []
 
 -- what is found after a root key with these raw bytes
-abbrev pub from_root_at : Kind → ℕ → List MarkedSegment → Token → List Token → Rest Pair
+abbrev pub from_root_at : TokenKind → ℕ → List ParsedSegment → Token → List Token → Rest Pair
 from_root_at Open depth path t rest = parsed_brackets depth path t.raw rest
-from_root_at Amp depth path t rest = with_leaf (direct path) (parsed_value (t ∷ rest))
-from_root_at Equals depth path t rest = with_leaf (direct path) (parsed_value (t ∷ rest))
+from_root_at Amp depth path t rest = with_leaf (assigned path) (parsed_value (t ∷ rest))
+from_root_at Equals depth path t rest = with_leaf (assigned path) (parsed_value (t ∷ rest))
 from_root_at Close depth path t rest = None
 from_root_at Other depth path t rest = None
 
 abbrev pub from_root : ℕ → List ℕ → List Token → Rest Pair
-from_root depth raw [] = with_leaf (direct (root_path raw)) (parsed_value [])
+from_root depth raw [] = with_leaf (assigned (root_path raw)) (parsed_value [])
 from_root depth raw (t ∷ rest) = from_root_at t.kind depth (root_path raw) t rest

@@ -5,7 +5,7 @@ use Rattle.std.specs.declared.cmp.Ord as ord
 use Rattle.std.specs.declared.cmp.PartialEq as eq
 use Rattle.std.specs.declared.cmp.PartialOrd as partial
 use Rattle.qs_tree.specs.internal.tree.Places.{put_value}
-use Rattle.qs_tree.specs.contracts.tree.entries.Entries.{the_row}
+use Rattle.qs_tree.specs.contracts.tree.entries.SortedEntries.{the_row}
 
 module _ (K V : RattleType) (G : ord.Ghosts K.Denot) (G' : eq.Ghosts K.Denot) (G'' : partial.Ghosts K.Denot) (s : MutBor (List (K.Denot × V.Denot))) where
   -- once the borrow r ends, the entry at an index has the last value after r

@@ -16,7 +16,7 @@ abbrev mutual
 
   pub entries_node_count : Entries → ℕ
   entries_node_count no_entries = 0
-  entries_node_count (entry k mark t es) = node_count t + entries_node_count es
+  entries_node_count (entry k escaped t es) = node_count t + entries_node_count es
 
 -- at least one node fewer, and at most one empty map or sequence fewer
 abbrev pub DropsOne : ℕ → ℕ → Type 0

@@ -28,7 +28,7 @@ pub(crate) static CLASSES: [u8; 256] = *b"\
 #[tactic(auto, using(crate::proofs::lemmas::escape::ByteClasses::ordinary_alone))]
 pub(crate) fn is_ordinary(byte: u8) -> bool
     ensures ampersand { IsTrue result → is_ampersand byte ≡ false }
-    ensures is_unmarked { IsTrue result → is_escape byte ≡ false }
+    ensures has_no_escape { IsTrue result → is_escape byte ≡ false }
 {
     CLASSES[byte as usize] == b'0'
 }

@@ -6,7 +6,7 @@ ghost use Rattle.qs_tree.specs.internal.escape.Search.{class_mask, is_escaped};
 ghost use Rattle.qs_tree.specs.escape.Classes.{is_encoded};
 
 use super::class::{Class, LANES};
-use super::marks::Byte;
+use super::escapes::Byte;
 use std::simd::prelude::*;
 
 // What form encoding writes for each byte: `%` if the byte is escaped. The escaped bytes are the application/x-www-form-urlencoded
@@ -32,10 +32,10 @@ static QUERY: [u8; 256] = *b"\
     %%%%%%%%%%%%%%%%%%%%%%%%%%%%%%%%\
     %%%%%%%%%%%%%%%%%%%%%%%%%%%%%%%%";
 
-/// The bytes that form encoding (`form`) or query encoding escapes.
+/// The bytes that form encoding (`is_form`) or query encoding escapes.
 #[derive(Clone, Copy)]
 pub(crate) struct Escaped {
-    pub(crate) form: bool,
+    pub(crate) is_form: bool,
 }
 
 impl Escaped {
@@ -43,10 +43,10 @@ impl Escaped {
     #[inline(always)]
     #[tactic(auto, using(crate::proofs::lemmas::escape::Tables::form_plain, crate::proofs::lemmas::escape::Tables::query_plain))]
     pub(crate) fn swapped(self, byte: u8) -> u8
-        requires { is_escaped self.form byte ≡ false }
+        requires { is_escaped self.is_form byte ≡ false }
         ensures { result ≡ swapped 32 43 byte }
     {
-        if self.form {
+        if self.is_form {
             FORM[byte as usize]
         } else {
             QUERY[byte as usize]
@@ -55,11 +55,11 @@ impl Escaped {
 }
 
 impl Class for Escaped {
-    ghost contains = { λ s b. is_escaped s.form b };
+    ghost contains = { λ s b. is_escaped s.is_form b };
 
     #[inline(always)]
     fn mask(self, bytes: &[u8], at: usize) -> u64 {
-        if self.form {
+        if self.is_form {
             form_mask(bytes, at)
         } else {
             query_mask(bytes, at)
@@ -67,9 +67,9 @@ impl Class for Escaped {
     }
 
     #[inline(always)]
-    #[tactic(auto, using(crate::proofs::lemmas::escape::Tables::form_marks, crate::proofs::lemmas::escape::Tables::query_marks))]
+    #[tactic(auto, using(crate::proofs::lemmas::escape::Tables::form_table, crate::proofs::lemmas::escape::Tables::query_table))]
     fn has(self, byte: u8) -> bool {
-        if self.form {
+        if self.is_form {
             FORM[byte as usize] == b'%'
         } else {
             QUERY[byte as usize] == b'%'
@@ -77,18 +77,18 @@ impl Class for Escaped {
     }
 }
 
-/// The bytes that form encoding (`form`) or query encoding changes: the bytes that it escapes, and the space.
+/// The bytes that form encoding (`is_form`) or query encoding changes: the bytes that it escapes, and the space.
 #[derive(Clone, Copy)]
 pub(super) struct Encoded {
-    pub(super) form: bool,
+    pub(super) is_form: bool,
 }
 
 impl Class for Encoded {
-    ghost contains = { λ s b. is_encoded s.form b };
+    ghost contains = { λ s b. is_encoded s.is_form b };
 
     #[inline(always)]
     fn mask(self, bytes: &[u8], at: usize) -> u64 {
-        if self.form {
+        if self.is_form {
             form_mask(bytes, at)
         } else {
             Byte(b' ').mask(bytes, at) + query_mask(bytes, at)
@@ -96,7 +96,10 @@ impl Class for Encoded {
     }
 
     fn has(self, byte: u8) -> bool {
-        byte == b' ' || Escaped { form: self.form }.has(byte)
+        let escaped = Escaped {
+            is_form: self.is_form,
+        };
+        byte == b' ' || escaped.has(byte)
     }
 }
 
@@ -110,8 +113,8 @@ fn form_mask(bytes: &[u8], at: usize) -> u64
     let no_letter = ((lanes | u8x32::splat(0x20)) - u8x32::splat(b'a')).simd_ge(u8x32::splat(26));
     let no_digit = (lanes - u8x32::splat(b'0')).simd_ge(u8x32::splat(10));
     let no_dash = lanes.simd_ne(u8x32::splat(b'-')) & lanes.simd_ne(u8x32::splat(b'.'));
-    let no_mark = lanes.simd_ne(u8x32::splat(b'*')) & lanes.simd_ne(u8x32::splat(b'_'));
-    (no_letter & no_digit & no_dash & no_mark).to_bitmask()
+    let no_other = lanes.simd_ne(u8x32::splat(b'*')) & lanes.simd_ne(u8x32::splat(b'_'));
+    (no_letter & no_digit & no_dash & no_other).to_bitmask()
 }
 
 // Returns the mask of the bytes that query encoding escapes, of the 32 from `at` on.

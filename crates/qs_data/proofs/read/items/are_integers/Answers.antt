@@ -1,4 +1,4 @@
-use Rattle.qs_data.proofs.Common.{◌≡◌, true, false, ap, sym, ◌∙◌, MarkedSegment, Tree, is_int, entries_of_map, segment_of_key, marked_segment_of_key, tree_of}
+use Rattle.qs_data.proofs.Common.{◌≡◌, true, false, ap, sym, ◌∙◌, ParsedSegment, Tree, is_int, entries_of_map, segment_of_key, parsed_segment_of_key, tree_of}
 use Rattle.qs_data.proofs.lemmas.read.Items.{int_key, not_int, string_key}
 use Rattle.qs_data.proofs.read.items.are_integers.Goals as goal
 
@@ -6,14 +6,14 @@ pub loop-i-preserved : goal.loop-i-preserved
 loop-i-preserved c =
     let es = entries_of_map c.args.map.now in
     let i = c.loop-i.i in
-    let x : MarkedSegment × Tree = (marked_segment_of_key c.in-Some.key.now, tree_of c.in-Some.field-0-1.now) in
-    let number : is_int x.0.seg ≡ true = ap (λ k. is_int (segment_of_key k)) c.in_default-key.is in
+    let x : ParsedSegment × Tree = (parsed_segment_of_key c.in-Some.key.now, tree_of c.in-Some.field-0-1.now) in
+    let number : is_int x.0.segment ≡ true = ap (λ k. is_int (segment_of_key k)) c.in_default-key.is in
     c.loop-i.invariant ∙ int_key i es x (sym c.in-Some.ensures.value) number
 
 pub returns-in-String : goal.returns-in-String
 returns-in-String c =
     let es = entries_of_map c.args.map.now in
     let i = c.loop-i.i in
-    let x : MarkedSegment × Tree = (marked_segment_of_key c.in-Some.key.now, tree_of c.in-Some.field-0-1.now) in
-    let text : is_int x.0.seg ≡ false = string_key c.in-Some.key.now c.in-String.field-0 c.in-String.is in
+    let x : ParsedSegment × Tree = (parsed_segment_of_key c.in-Some.key.now, tree_of c.in-Some.field-0-1.now) in
+    let text : is_int x.0.segment ≡ false = string_key c.in-Some.key.now c.in-String.field-0 c.in-String.is in
     sym (c.loop-i.invariant ∙ not_int i es x (sym c.in-Some.ensures.value) text)

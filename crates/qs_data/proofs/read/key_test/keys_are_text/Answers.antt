@@ -1,4 +1,4 @@
-use Rattle.qs_data.proofs.Common.{◌≡◌, ◌+◌, sym, subst, entry, entries_of_map, marked_segment_of_key, tree_of, entries_after}
+use Rattle.qs_data.proofs.Common.{◌≡◌, ◌+◌, sym, subst, entry, entries_of_map, parsed_segment_of_key, tree_of, entries_after}
 use Rattle.qs_data.proofs.lemmas.read.Entries.{Passed, after_some, passed_more}
 use Rattle.qs_data.proofs.read.key_test.keys_are_text.Goals as goal
 
@@ -6,9 +6,9 @@ pub loop-i-preserved : goal.loop-i-preserved
 loop-i-preserved c =
     let es = entries_of_map c.args.map.now in
     let i = c.loop-i.i in
-    let key = marked_segment_of_key c.in-Some.key.now in
+    let key = parsed_segment_of_key c.in-Some.key.now in
     let t = tree_of c.in-Some.field-0-1.now in
     let more = entries_after (i + 1) es in
-    let here : entries_after i es ≡ entry key.seg key.mark t more = after_some i es (key, t) (sym c.in-Some.ensures.value) in
-    let before : Passed es (entry key.seg key.mark t more) c.loop-i.passed = subst (λ r. Passed es r c.loop-i.passed) here c.loop-i.invariant in
-    passed_more es more key.seg key.mark t c.loop-i.passed c.is_utf8_key-passed.result before c.is_utf8_key-passed.ensures.text c.is_utf8_key-passed.ensures.fit
+    let here : entries_after i es ≡ entry key.segment key.escaped t more = after_some i es (key, t) (sym c.in-Some.ensures.value) in
+    let before : Passed es (entry key.segment key.escaped t more) c.loop-i.passed = subst (λ r. Passed es r c.loop-i.passed) here c.loop-i.invariant in
+    passed_more es more key.segment key.escaped t c.loop-i.passed c.is_utf8_key-passed.result before c.is_utf8_key-passed.ensures.text c.is_utf8_key-passed.ensures.fit

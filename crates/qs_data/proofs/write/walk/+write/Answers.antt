@@ -145,5 +145,5 @@ write_pairs-returns-in_default g t c =
     record {
       writes = λ config. rw (← c.deref-pair-items.ensures.value) (ends_early config _ _ _ _ (pairs_left xs l.pair-index) (pairs_part (pairs_in xs)) (l.invariant config) (Err BadKey) BadKey _ l.walk (λ config path. failure bad_key)
           (pairs_left xs (l.pair-index + 1)) refl (λ path. pairs_here config.max_depth config.array_format xs l.pair-index c.pair-item.result path _ (omega arith) c.pair-item.is c.in_default.ensures)
-          (λ path at. (refl, adds_nothing config.form _)));
+          (λ path at. (refl, adds_nothing config.is_form _)));
     }

@@ -1,4 +1,4 @@
-use Rattle.qs_tree.proofs.Common.{drop, ◌+◌, ◌≡◌, ap, sym, ◌∙◌, unwrap_or, rules, refl, Global, BTreeMap, add, Key, TreeBuilder, is_push, leaf_of, path_of, built_tree, built_entries, entries_seen, fresh, marked_segment_of_key, Ok, Err, same_Some, key_cmp}
+use Rattle.qs_tree.proofs.Common.{drop, ◌+◌, ◌≡◌, ap, sym, ◌∙◌, unwrap_or, rules, refl, Global, BTreeMap, add, Key, TreeBuilder, is_push, leaf_of, path_of, built_tree, built_entries, entries_seen, fresh, parsed_segment_of_key, Ok, Err, same_Some, key_cmp}
 use Rattle.qs_tree.proofs.lemmas.Views.{built_tree-Map, built_tree-fresh}
 use Rattle.qs_tree.proofs.lemmas.tree.Places.{hit_value, hit_insert, gap_lookup}
 use Rattle.qs_tree.proofs.lemmas.build.Turns.{gives_err, below_map}
@@ -56,5 +56,5 @@ add_further-returns-in-Map-clause-added t c =
     let pair = c.take_key-key.new.self in
     let h = rw (c.take_key-key.ensures.manner, c.take_key-key.ensures.leaf) at c.add_at_key.ensures in
     rw (c.in-Map.is, c.take_key-key.ensures.key, built_tree-Map c.in-Map.map, built_tree-Map c.add_at_key.new.map)
-    (below_map (marked_segment_of_key c.take_key-key.result) (path_of (drop (c.args.level + 1) pair.path)) (is_push c.args.pair.now.manner) (leaf_of c.args.pair.now.leaf)
+    (below_map (parsed_segment_of_key c.take_key-key.result) (path_of (drop (c.args.level + 1) pair.path)) (is_push c.args.pair.now.manner) (leaf_of c.args.pair.now.leaf)
     (built_entries c.in-Map.map) (built_entries c.add_at_key.new.map) c.add_at_key.result h)

@@ -1,4 +1,4 @@
-use Rattle.qs_tree.proofs.Common.{◌≡◌, ◌+◌, ◌∷◌, Ok, true, drop, sym, ◌∙◌, insert_entry, key_cmp, put_value, marked_segment_of_key, is_push, leaf_of, path_of}
+use Rattle.qs_tree.proofs.Common.{◌≡◌, ◌+◌, ◌∷◌, Ok, true, drop, sym, ◌∙◌, insert_entry, key_cmp, put_value, parsed_segment_of_key, is_push, leaf_of, path_of}
 use Rattle.qs_tree.proofs.lemmas.build.Chains.{added_below, added_new, in_map, same_head}
 use Rattle.qs_tree.proofs.build.add_to_value.+add_to_value.Goals as goal
 
@@ -9,7 +9,7 @@ add_in_map-returns-in-Ok t c =
     let path = path_of (drop (c.args.level + 1) pair.path) in
     let found = rw (c.in-Ok.is, c.as_slice.ensures.all) at c.place_among-place.ensures in
     rw c.key.ensures.key
-    (in_map c.args.map.now (record { map = put_value es c.in-Ok.at c.add_to_value.new.value }) (marked_segment_of_key c.key.result.now ∷ path) (is_push pair.manner) (leaf_of pair.leaf) pair c.add_to_value.new.pair c.add_to_value.result
+    (in_map c.args.map.now (record { map = put_value es c.in-Ok.at c.add_to_value.new.value }) (parsed_segment_of_key c.key.result.now ∷ path) (is_push pair.manner) (leaf_of pair.leaf) pair c.add_to_value.new.pair c.add_to_value.result
     (added_below c.key.result.now es c.as_slice.ensures.sorted c.in-Ok.at path (is_push pair.manner) (leaf_of pair.leaf)
     found c.at_mut.result.now c.add_to_value.new.value c.at_mut.ensures.value pair c.add_to_value.new.pair c.add_to_value.result c.add_to_value.ensures))
 
@@ -23,5 +23,5 @@ add_in_map-returns-in_ok-insert_at-in-Err t c =
     let gap = rw (c.in-Err.is, c.as_slice.ensures.all, key) at c.place_among-place.ensures in
     let alone = rw (c.take_key-key.ensures.manner, c.take_key-key.ensures.leaf) at c.in_ok-value-in-Err.ensures in
     rw (c.take_key-key.ensures.key, c.in_ok-insert_at-in-Err.ensures.ok)
-    (in_map c.args.map.now (record { map = insert_entry key_cmp es c.take_key-key.result c.in_ok-value-in-Err.value }) (marked_segment_of_key c.take_key-key.result ∷ path) (is_push pair.manner) (leaf_of pair.leaf) pair taken (Ok true)
+    (in_map c.args.map.now (record { map = insert_entry key_cmp es c.take_key-key.result c.in_ok-value-in-Err.value }) (parsed_segment_of_key c.take_key-key.result ∷ path) (is_push pair.manner) (leaf_of pair.leaf) pair taken (Ok true)
     (added_new c.take_key-key.result es c.as_slice.ensures.sorted c.in-Err.at path (is_push pair.manner) (leaf_of pair.leaf) gap c.in_ok-value-in-Err.value alone))

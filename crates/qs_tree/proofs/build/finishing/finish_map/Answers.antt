@@ -1,17 +1,17 @@
-use Rattle.qs_tree.proofs.Common.{◌≡◌, [], ◌∷◌, length, sym, ap, ◌∙◌, append-nil, length-append, arith, mapping, Frame, entries_from, built_entries, level_pairs, with_node}
+use Rattle.qs_tree.proofs.Common.{◌≡◌, [], ◌∷◌, length, sym, ap, ◌∙◌, append-nil, length-append, arith, mapping, OuterLevel, entries_from, built_entries, level_pairs, with_node}
 use Rattle.qs_tree.proofs.lemmas.tree.Keys.{entries_of_map-map}
 use Rattle.qs_tree.proofs.lemmas.build.Levels.{maps_on_stack, taken, put_back, in_order, in_order-last, last_in_order, maps_on_stack-last}
 use Rattle.qs_tree.proofs.build.finishing.finish_map.Goals as goal
 
 pub loop-stack-smaller : goal.loop-stack-smaller
 loop-stack-smaller c =
-    let w : Frame = record { level = c.next_map.new.self; key = c.in-Some.key } in
+    let w : OuterLevel = record { level = c.next_map.new.self; key = c.in-Some.key } in
     let ws = c.loop-stack.stack.items in
     omega (arith, rw c.in-Some.is at c.in_ok-key.ensures.fewer, c.in_ok-inner.ensures.maps, ap length c.in_ok-push.ensures.items, length-append ws (w ∷ []), ap maps_on_stack c.in_ok-push.ensures.items, maps_on_stack-last w ws)
 
 pub loop-stack-preserved : goal.loop-stack-preserved
 loop-stack-preserved c =
-    let w : Frame = record { level = c.next_map.new.self; key = c.in-Some.key } in
+    let w : OuterLevel = record { level = c.next_map.new.self; key = c.in-Some.key } in
     let ws = c.loop-stack.stack.items in
     let es = built_entries c.in-Some.map in
     let same : with_node w (mapping es) ≡ level_pairs c.loop-stack.level = rw c.in-Some.is at c.in_ok-key.ensures.pairs in

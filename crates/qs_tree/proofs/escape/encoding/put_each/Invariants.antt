@@ -3,8 +3,8 @@ use Rattle.qs_tree.proofs.escape.encoding.put_each.Given as goal
 
 abbrev pub invariant-loop-rest : goal.invariant-loop-rest
 invariant-loop-rest l = record {
-  text : take l.at l.room ++ encoded l.form l.rest ≡ take l.begin l.initial.room ++ encoded l.form l.bytes;
-  end : l.at + length (encoded l.form l.rest) ≡ l.begin + length (encoded l.form l.bytes);
+  text : take l.at l.room ++ encoded l.is_form l.rest ≡ take l.begin l.initial.room ++ encoded l.is_form l.bytes;
+  end : l.at + length (encoded l.is_form l.rest) ≡ l.begin + length (encoded l.is_form l.bytes);
 }
 
 abbrev pub decreases-loop-rest : goal.decreases-loop-rest

@@ -11,15 +11,15 @@ returns-then-end-lt-LANES-clause-first c =
     (λ k below. elim (cases_lt k c.loop-at.at) [ inl early ↦ front.1 k (omega arith) early | inr late ↦ first.1 k late below ])
     (λ _. first.2 c.if-end-lt-LANES.true))
 
-pub returns-then-end-lt-LANES-clause-is_unmarked : goal.returns-then-end-lt-LANES-clause-is_unmarked
-returns-then-end-lt-LANES-clause-is_unmarked c = λ unmarked.
+pub returns-then-end-lt-LANES-clause-has_no_escape : goal.returns-then-end-lt-LANES-clause-has_no_escape
+returns-then-end-lt-LANES-clause-has_no_escape c = λ ignoring_escapes.
     let front = c.loop-at.invariant in
     let within : c.loop-at.at + c.run-end.result ≤ length c.args.bytes.now = omega (arith, c.loop-at-test.true, c.if-end-lt-LANES.true, front.0) in
     elim c.if-run-end.branch [
-      | then-run-end w ↦ let is = w.is_unmarked-is in absurd (cc)
+      | then-run-end w ↦ let is = w.has_no_escape-is in absurd (cc)
       | else-run-end w ↦
-          let is = w.is_unmarked-is in
-          let before : c.loop-at.is_unmarked ≡ true = cc in
+          let is = w.has_no_escape-is in
+          let before : c.loop-at.has_no_escape ≡ true = cc in
           none_in_front is_escape c.args.bytes.now (c.loop-at.at + c.run-end.result) within
           (λ k from to. elim (cases_lt k c.loop-at.at) [ inl early ↦ front.2 before k from early | inr late ↦ c.run.ensures.1 k late (omega (arith, to, w.if-run-end.false)) ])
     ]

@@ -4,16 +4,16 @@ use Rattle.qs_tree.proofs.scan.cursor.run_len.Goals as goal
 
 pub loop-at-preserved-then-is_inside : goal.loop-at-preserved-then-is_inside
 loop-at-preserved-then-is_inside c = (
-  inside_on (ends_of c.args.until) c.args.form c.args.bytes.now c.loop-at.at c.loop-at.invariant.0 (omega (arith, c.loop-at-test.true)) (c.if-is_inside.ensures.inside refl),
-  λ unmarked k from to. elim (cases_lt k c.loop-at.at) [
-    | inl early ↦ c.loop-at.invariant.1 unmarked k from early
-    | inr late ↦ ap (λ n. is_escape (slice_index c.args.bytes.now n)) (omega (arith, late, to)) ∙ c.if-is_inside.ensures.is_unmarked refl
+  inside_on (ends_of c.args.until) c.args.is_form c.args.bytes.now c.loop-at.at c.loop-at.invariant.0 (omega (arith, c.loop-at-test.true)) (c.if-is_inside.ensures.inside refl),
+  λ ignoring_escapes k from to. elim (cases_lt k c.loop-at.at) [
+    | inl early ↦ c.loop-at.invariant.1 ignoring_escapes k from early
+    | inr late ↦ ap (λ n. is_escape (slice_index c.args.bytes.now n)) (omega (arith, late, to)) ∙ c.if-is_inside.ensures.has_no_escape refl
   ],
 )
 
 pub loop-at-preserved : goal.loop-at-preserved
 loop-at-preserved c = (
-  token_on (ends_of c.args.until) c.args.form c.args.bytes.now c.loop-at.at c.first_token-kind.result.1 (kind_of_token c.first_token-kind.result.0) c.loop-at.invariant.0
+  token_on (ends_of c.args.until) c.args.is_form c.args.bytes.now c.loop-at.at c.first_token-kind.result.1 (kind_of_token c.first_token-kind.result.0) c.loop-at.invariant.0
       c.first_token-kind.ensures.within c.first_token-kind.ensures.token (sym c.is_at.ensures ∙ c.if-is_at.false),
   λ is. absurd (cc),
 )

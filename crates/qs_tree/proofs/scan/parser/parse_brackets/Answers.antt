@@ -1,4 +1,4 @@
-use Rattle.qs_tree.proofs.Common.{◌≡◌, ◌-◌, ◌++◌, List, ◌∷◌, sym, ap, ◌∙◌, arith, refl, append_assoc, Token, raw_of, Pair, Rest, direct, is_close, ends_last, cut, with_leaf, parsed_value, parsed_brackets, after_close, after_run, kind_of_token, token_of, looks, ended_after, left, from_token, taken, path_of}
+use Rattle.qs_tree.proofs.Common.{◌≡◌, ◌-◌, ◌++◌, List, ◌∷◌, sym, ap, ◌∙◌, arith, refl, append_assoc, Token, raw_of, Pair, Rest, assigned, is_close, ends_last, cut, with_leaf, parsed_value, parsed_brackets, after_close, after_run, kind_of_token, token_of, looks, ended_after, left, from_token, taken, path_of}
 use Rattle.qs_tree.proofs.lemmas.scan.AfterKeys.{pair_as, push_found, last_found, rest_left, front_taken, segment_parsed, next_closing, next_open, next_close, next_other, closes}
 use Rattle.qs_tree.proofs.scan.parser.parse_brackets.Goals as goal
 use Rattle.qs_tree.proofs.scan.parser.parse_brackets.Goals.{In-Some, In_ok-push, In-Some-stop}
@@ -12,7 +12,7 @@ opened : (w : In-Some) → brackets w (left w.loop-first.cursor) ≡ brackets w 
 opened w = ap (brackets w) w.in-Some.ensures.token
 
 -- the bracket and that token are what was taken since the bracket's position
-whole : (w : In-Some) → w.loop-first.bracket.place.rest.now ≡ (w.loop-first.bracket.raw.now ++ (token_of w.in-Some.first).raw) ++ w.next.new.self.rest.now
+whole : (w : In-Some) → w.loop-first.bracket.position.rest.now ≡ (w.loop-first.bracket.raw.now ++ (token_of w.in-Some.first).raw) ++ w.next.new.self.rest.now
 whole w =
     let bracket = w.loop-first.bracket.raw.now in
     w.loop-first.invariant.follows.0 ∙ ap (λ l. bracket ++ l) w.in-Some.ensures.bytes ∙ sym (append_assoc bracket w.in-Some.first.raw.now w.next.new.self.rest.now)
@@ -23,7 +23,7 @@ segment : (w : In_ok-push) → parsed_brackets w.loop-first.room (path_of w.loop
 segment w =
     let first = token_of w.in-Some.first in
     let now = w.next.new.self in
-    let run = w.run_from.ensures.run ∙ ap (λ l. l ++ raw_of (cut is_close (left now)).0) (front_taken w.in-Some.first.place.rest.now first.raw now.rest.now (w.in-Some.ensures.place ∙ w.in-Some.ensures.bytes)) in
+    let run = w.run_from.ensures.run ∙ ap (λ l. l ++ raw_of (cut is_close (left now)).0) (front_taken w.in-Some.first.position.rest.now first.raw now.rest.now (w.in-Some.ensures.position ∙ w.in-Some.ensures.bytes)) in
     segment_parsed w.loop-first.room w.loop-first.pair.path w.push.new.self w.in_ok-parse_key.field-0 w.loop-first.bracket.raw.now w.run_from.result.0.now first (left now) (from_token w.run_from.result.1 (left w.run_from.new.self)) (omega arith)
     (sym w.is_close.ensures ∙ w.if-is_close.false) run w.run_from.ensures.token w.in_ok-push.ensures w.in_ok-parse_key.ensures.key
 
@@ -41,7 +41,7 @@ returns-then-is_close-clause-pair c =
 
 pub parse_last_key-requires-clause-follows : goal.parse_last_key-requires-clause-follows
 parse_last_key-requires-clause-follows c =
-    rest_left c.loop-first.bracket.place.rest.now (c.loop-first.bracket.raw.now ++ (token_of c.in-Some.first).raw) c.next.new.self.rest.now (whole (goal.at.parse_last_key-requires-clause-follows c).In-Some)
+    rest_left c.loop-first.bracket.position.rest.now (c.loop-first.bracket.raw.now ++ (token_of c.in-Some.first).raw) c.next.new.self.rest.now (whole (goal.at.parse_last_key-requires-clause-follows c).In-Some)
 
 pub returns-then-room-eq0-clause-pair : goal.returns-then-room-eq0-clause-pair
 returns-then-room-eq0-clause-pair c =
@@ -50,13 +50,13 @@ returns-then-room-eq0-clause-pair c =
     let bracket = c.loop-first.bracket.raw.now in
     let first = token_of c.in-Some.first in
     let now = c.next.new.self in
-    let place = c.loop-first.bracket.place.rest.now in
+    let position = c.loop-first.bracket.position.rest.now in
     let none : c.loop-first.room ≡ 0 = omega arith in
     let run = cut ends_last (left now) in
     pair_as _ _ c.parse_last_key.result c.parse_last_key.new.cursor c.parse_last_key.new.pair
     (c.loop-first.invariant.found ∙ opened w ∙ ap (λ n. parsed_brackets n path bracket (first ∷ left now)) none
-    ∙ last_found path bracket (taken place now.rest.now ++ raw_of run.0) first (left now) run.1 (sym c.is_close.ensures ∙ c.if-is_close.false)
-    (ap (λ l. l ++ raw_of run.0) (front_taken place (bracket ++ first.raw) now.rest.now (whole w))) refl)
+    ∙ last_found path bracket (taken position now.rest.now ++ raw_of run.0) first (left now) run.1 (sym c.is_close.ensures ∙ c.if-is_close.false)
+    (ap (λ l. l ++ raw_of run.0) (front_taken position (bracket ++ first.raw) now.rest.now (whole w))) refl)
     c.parse_last_key.ensures.pair
 
 pub returns-in_default-stop-clause-pair : goal.returns-in_default-stop-clause-pair
@@ -69,21 +69,21 @@ pub returns-in_default-next-clause-pair : goal.returns-in_default-next-clause-pa
 returns-in_default-next-clause-pair c =
     let at = goal.at.returns-in_default-next-clause-pair c in
     let path = path_of c.push.new.self in
-    pair_as _ _ c.parse_direct.result c.parse_direct.new.cursor c.parse_direct.new.pair
+    pair_as _ _ c.parse_assigned.result c.parse_assigned.new.cursor c.parse_assigned.new.pair
     (c.loop-first.invariant.found ∙ opened at.In-Some ∙ segment at.In_ok-push ∙ closed at.In-Some-stop ∙ ap (after_close (parsed_brackets (c.loop-first.room - 1)) path) c.in_default-next.ensures.token
-    ∙ ap (λ o. with_leaf (direct path) (parsed_value (from_token o (left c.next-next.new.self)))) (sym c.in_default-next.is))
-    c.parse_direct.ensures.pair
+    ∙ ap (λ o. with_leaf (assigned path) (parsed_value (from_token o (left c.next-next.new.self)))) (sym c.in_default-next.is))
+    c.parse_assigned.ensures.pair
 
 pub returns-in-Ampersand-clause-pair : goal.returns-in-Ampersand-clause-pair
 returns-in-Ampersand-clause-pair c =
     let at = goal.at.returns-in-Ampersand-clause-pair c in
     let path = path_of c.push.new.self in
     let token = c.in-Some-next.token in
-    pair_as _ _ c.parse_direct-in-Ampersand.result c.parse_direct-in-Ampersand.new.cursor c.parse_direct-in-Ampersand.new.pair
+    pair_as _ _ c.parse_assigned-in-Ampersand.result c.parse_assigned-in-Ampersand.new.cursor c.parse_assigned-in-Ampersand.new.pair
     (c.loop-first.invariant.found ∙ opened at.In-Some ∙ segment at.In_ok-push ∙ closed at.In-Some-stop ∙ ap (after_close (parsed_brackets (c.loop-first.room - 1)) path) c.in-Some-next.ensures.token
     ∙ next_closing (c.loop-first.room - 1) path token (left c.next-next.new.self) (kind_of_token token.kind) refl (closes token.kind c.in-Ampersand.is)
-    ∙ ap (λ o. with_leaf (direct path) (parsed_value (from_token o (left c.next-next.new.self)))) (sym c.in-Some-next.is))
-    c.parse_direct-in-Ampersand.ensures.pair
+    ∙ ap (λ o. with_leaf (assigned path) (parsed_value (from_token o (left c.next-next.new.self)))) (sym c.in-Some-next.is))
+    c.parse_assigned-in-Ampersand.ensures.pair
 
 pub loop-first-preserved : goal.loop-first-preserved
 loop-first-preserved c =
@@ -92,8 +92,8 @@ loop-first-preserved c =
     record {
       found = c.loop-first.invariant.found ∙ opened at.In-Some ∙ segment at.In_ok-push ∙ closed at.In-Some-stop ∙ ap (after_close (parsed_brackets (c.loop-first.room - 1)) path) c.in-Some-next.ensures.token
           ∙ next_open (c.loop-first.room - 1) path c.in-Some-next.token (left c.next-next.new.self) (ap kind_of_token c.in-Open.is);
-      follows = (c.in-Some-next.ensures.place ∙ c.in-Some-next.ensures.bytes, c.in-Some-next.ensures.ended ∙ c.run_from.ensures.ended ∙ ap (λ o. ended_after o c.next.new.self.ended) c.in-Some-stop.is ∙ c.in-Some.ensures.ended ∙ c.loop-first.invariant.follows.1);
-      form = c.in-Some-next.ensures.form ∙ c.run_from.ensures.form ∙ c.in-Some.ensures.form ∙ c.loop-first.invariant.form;
+      follows = (c.in-Some-next.ensures.position ∙ c.in-Some-next.ensures.bytes, c.in-Some-next.ensures.ended ∙ c.run_from.ensures.ended ∙ ap (λ o. ended_after o c.next.new.self.ended) c.in-Some-stop.is ∙ c.in-Some.ensures.ended ∙ c.loop-first.invariant.follows.1);
+      is_form = c.in-Some-next.ensures.is_form ∙ c.run_from.ensures.is_form ∙ c.in-Some.ensures.is_form ∙ c.loop-first.invariant.is_form;
       shorter = omega (arith, c.in-Some-next.ensures.shorter, c.in-Some.ensures.shorter);
       spent = omega (arith, c.in-Some-next.ensures.cost, c.in-Some.ensures.cost, ap looks c.in-Some-stop.is);
     }

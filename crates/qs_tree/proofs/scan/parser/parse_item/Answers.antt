@@ -1,13 +1,13 @@
 use Rattle.qs_tree.proofs.Common.{◌≡◌, [], true, false, sym, ap, ap₂, ◌∙◌, subst, tokens, raw_of, ends_root, cut, parsed_pairs, and_pairs, left, from_token, is_nothing, from_root, AllocatesNothing, is_unescaped, IsEqualsStop}
 use Rattle.qs_tree.proofs.lemmas.scan.AfterKeys.{has_bytes}
 use Rattle.qs_tree.proofs.lemmas.scan.Items.{end_pairs, ampersand_pairs, pair_pairs, pair_item, error_item}
-use Rattle.qs_tree.proofs.lemmas.scan.SmallItems.{small_nothing, small_value}
+use Rattle.qs_tree.proofs.lemmas.scan.UnallocatedItems.{unallocated_nothing, unallocated_value}
 use Rattle.qs_tree.proofs.scan.parser.parse_item.Goals as goal
 use Rattle.qs_tree.proofs.scan.parser.parse_item.Goals.{After-is_nothing}
 
 -- the tokens from the root key on
 same : (w : After-is_nothing) → left w.args.cursor.now ≡ left w.begin_pair.new.self
-same w = sym (ap₂ tokens w.begin_pair.ensures.form w.begin_pair.ensures.rest)
+same w = sym (ap₂ tokens w.begin_pair.ensures.is_form w.begin_pair.ensures.rest)
 
 -- the bytes of the root key, what follows it, and whether that is nothing
 key : (w : After-is_nothing) → w.run.result.0.now ≡ raw_of (cut (ends_root w.args.max_depth) (left w.begin_pair.new.self)).0
@@ -25,27 +25,27 @@ pairs : (w : After-is_nothing) → w.is_nothing.result ≡ false
 pairs w some =
     let depth = w.args.max_depth in
     let old = w.begin_pair.new.self in
-    ap (parsed_pairs depth) (same w) ∙ pair_pairs depth (left old) w.run.result.1 (left w.run.new.self) (has_bytes old.form old.rest.now) (stop w) (tested w ∙ some)
+    ap (parsed_pairs depth) (same w) ∙ pair_pairs depth (left old) w.run.result.1 (left w.run.new.self) (has_bytes old.is_form old.rest.now) (stop w) (tested w ∙ some)
     ∙ ap (λ raw. and_pairs depth (from_root depth raw (from_token w.run.result.1 (left w.run.new.self)))) (sym (key w))
 
 -- a value alone, for which nothing is allocated
-bare : (w : After-is_nothing) → w.is_nothing.result ≡ false → AllocatesNothing w.args.cursor.now.rest.now → (w.run.result.0.now ≡ []) × IsEqualsStop w.run.result.1 × (is_unescaped w.run.new.self.rest.now ≡ true)
-bare w some taken =
+root_value : (w : After-is_nothing) → w.is_nothing.result ≡ false → AllocatesNothing w.args.cursor.now.rest.now → (w.run.result.0.now ≡ []) × IsEqualsStop w.run.result.1 × (is_unescaped w.run.new.self.rest.now ≡ true)
+root_value w some taken =
     let old = w.begin_pair.new.self in
     let new = w.run.new.self in
-    small_value w.args.max_depth old.form w.run.result.0.now w.run.result.1 (left new) new.rest.now old.rest.now (key w) (stop w) w.run.ensures.bytes (subst AllocatesNothing (sym w.begin_pair.ensures.rest) taken) (sym w.is_nothing.ensures ∙ some)
+    unallocated_value w.args.max_depth old.is_form w.run.result.0.now w.run.result.1 (left new) new.rest.now old.rest.now (key w) (stop w) w.run.ensures.bytes (subst AllocatesNothing (sym w.begin_pair.ensures.rest) taken) (sym w.is_nothing.ensures ∙ some)
 
 pub returns-in-None-clause-item : goal.returns-in-None-clause-item
 returns-in-None-clause-item c =
     let w = (goal.at.returns-in-None-clause-item c).After-is_nothing in
     let old = c.begin_pair.new.self in
-    ap (parsed_pairs c.args.max_depth) (same w) ∙ end_pairs c.args.max_depth (left old) c.run.result.1 (left c.run.new.self) (has_bytes old.form old.rest.now) (stop w) (tested w ∙ c.if-is_nothing.true) c.in-None.is
+    ap (parsed_pairs c.args.max_depth) (same w) ∙ end_pairs c.args.max_depth (left old) c.run.result.1 (left c.run.new.self) (has_bytes old.is_form old.rest.now) (stop w) (tested w ∙ c.if-is_nothing.true) c.in-None.is
 
 pub returns-in-Some-clause-item : goal.returns-in-Some-clause-item
 returns-in-Some-clause-item c =
     let w = (goal.at.returns-in-Some-clause-item c).After-is_nothing in
     let old = c.begin_pair.new.self in
-    ap (parsed_pairs c.args.max_depth) (same w) ∙ ampersand_pairs c.args.max_depth (left old) c.run.result.1 c.in-Some.field-0 (left c.run.new.self) (has_bytes old.form old.rest.now) (stop w) (tested w ∙ c.if-is_nothing.true) c.in-Some.is
+    ap (parsed_pairs c.args.max_depth) (same w) ∙ ampersand_pairs c.args.max_depth (left old) c.run.result.1 c.in-Some.field-0 (left c.run.new.self) (has_bytes old.is_form old.rest.now) (stop w) (tested w ∙ c.if-is_nothing.true) c.in-Some.is
 
 pub returns-clause-item : goal.returns-clause-item
 returns-clause-item c =
@@ -57,19 +57,19 @@ returns-in_err-parse_after_root-clause-item c =
     error_item c.args.max_depth (left c.args.cursor.now) _ c.from_residual.result c.in_err-parse_after_root.field-0.0 _ c.parse_after_root.new.cursor c.parse_after_root.new.pair c.from_residual.ensures.1 (λ y p. p)
     (pairs (goal.at.returns-in_err-parse_after_root-clause-item c).After-is_nothing c.if-is_nothing.false) c.in_err-parse_after_root.ensures.pair
 
-pub returns-in-Some-clause-small : goal.returns-in-Some-clause-small
-returns-in-Some-clause-small c = λ taken.
-    let w = (goal.at.returns-in-Some-clause-small c).After-is_nothing in
+pub returns-in-Some-clause-unallocated : goal.returns-in-Some-clause-unallocated
+returns-in-Some-clause-unallocated c = λ taken.
+    let w = (goal.at.returns-in-Some-clause-unallocated c).After-is_nothing in
     let old = c.begin_pair.new.self in
     let new = c.run.new.self in
-    small_nothing c.args.max_depth old.form c.run.result.0.now c.run.result.1 (left new) new.rest.now old.rest.now c.in-Some.field-0 (key w) (stop w) c.run.ensures.bytes (subst AllocatesNothing (sym c.begin_pair.ensures.rest) taken) (sym c.is_nothing.ensures ∙ c.if-is_nothing.true) c.in-Some.is
+    unallocated_nothing c.args.max_depth old.is_form c.run.result.0.now c.run.result.1 (left new) new.rest.now old.rest.now c.in-Some.field-0 (key w) (stop w) c.run.ensures.bytes (subst AllocatesNothing (sym c.begin_pair.ensures.rest) taken) (sym c.is_nothing.ensures ∙ c.if-is_nothing.true) c.in-Some.is
 
-pub returns-clause-small : goal.returns-clause-small
-returns-clause-small c = λ taken.
-    let is = bare (goal.at.returns-clause-small c).After-is_nothing c.if-is_nothing.false taken in
-    c.in_ok-parse_after_root.ensures.bare is.0 is.1 is.2
+pub returns-clause-unallocated : goal.returns-clause-unallocated
+returns-clause-unallocated c = λ taken.
+    let is = root_value (goal.at.returns-clause-unallocated c).After-is_nothing c.if-is_nothing.false taken in
+    c.in_ok-parse_after_root.ensures.root_value is.0 is.1 is.2
 
-pub returns-in_err-parse_after_root-clause-small : goal.returns-in_err-parse_after_root-clause-small
-returns-in_err-parse_after_root-clause-small c = λ taken.
-    let is = bare (goal.at.returns-in_err-parse_after_root-clause-small c).After-is_nothing c.if-is_nothing.false taken in
-    absurd (c.in_err-parse_after_root.ensures.bare is.0 is.1 is.2)
+pub returns-in_err-parse_after_root-clause-unallocated : goal.returns-in_err-parse_after_root-clause-unallocated
+returns-in_err-parse_after_root-clause-unallocated c = λ taken.
+    let is = root_value (goal.at.returns-in_err-parse_after_root-clause-unallocated c).After-is_nothing c.if-is_nothing.false taken in
+    absurd (c.in_err-parse_after_root.ensures.root_value is.0 is.1 is.2)

@@ -5,8 +5,8 @@ use Rattle.qs_tree.proofs.tree.key.write_lossy.Goals as goal
 
 pub loop-chunk-preserved-in-Continue-branch-2 : goal.loop-chunk-preserved-in-Continue-branch-2
 loop-chunk-preserved-in-Continue-branch-2 g c =
-    λ unmarked.
-    let now = c.loop-chunk.invariant unmarked in
+    λ ignoring_escapes.
+    let now = c.loop-chunk.invariant ignoring_escapes in
     let steps = c.in-Some.ensures.steps in
     let some : 0 < length c.in-Some.chunk.invalid.now = search rules in
     let text = utf8_lossy_chunk _ _ _ _ steps.0 steps.3.0 steps.3.1 some in
@@ -15,8 +15,8 @@ loop-chunk-preserved-in-Continue-branch-2 g c =
 
 pub loop-chunk-preserved : goal.loop-chunk-preserved
 loop-chunk-preserved g c =
-    λ unmarked.
-    let now = c.loop-chunk.invariant unmarked in
+    λ ignoring_escapes.
+    let now = c.loop-chunk.invariant ignoring_escapes in
     let steps = c.in-Some.ensures.steps in
     let none : length c.in-Some.chunk.invalid.now ≡ 0 = search rules in
     let text = utf8_lossy_last_chunk _ _ _ _ steps.0 steps.3.0 none (steps.2 none) in
@@ -24,6 +24,6 @@ loop-chunk-preserved g c =
 
 pub returns : goal.returns
 returns g c =
-    λ unmarked ok.
-    let now = c.loop-chunk.invariant unmarked in
+    λ ignoring_escapes ok.
+    let now = c.loop-chunk.invariant ignoring_escapes in
     has_written_of_eq _ _ _ _ _ (sym (append-nil _) ∙ rw (utf8_lossy_empty (utf8_chunks_rest c.loop-chunk.chunk-iterator) c.in-None.ensures.steps.0) at now.2) now.1

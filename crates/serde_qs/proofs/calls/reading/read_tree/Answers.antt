@@ -4,5 +4,5 @@ use Rattle.serde_qs.proofs.calls.reading.read_tree.Goals as goal
 
 pub returns : goal.returns
 returns g c =
-    returns_value g.T.Deserialize.table.value c.args.config g.T.Deserialize.table.form g.T.Deserialize.table.meaning c.args.input.now (tree_of c.in_ok-tree.tree)
+    returns_value g.T.Deserialize.table.value c.args.config g.T.Deserialize.table.shape g.T.Deserialize.table.meaning c.args.input.now (tree_of c.in_ok-tree.tree)
     g.T.Deserialize.table.distinct c.in_ok-tree.ensures.tree c.read_root.result c.read_root.ensures

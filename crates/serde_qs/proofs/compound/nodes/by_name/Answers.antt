@@ -14,7 +14,7 @@ pub returns-in-Missing : goal.returns-in-Missing
 returns-in-Missing g c =
     let t = g.F.FieldType.table in
     let es = entries_view c.args.entries in
-    missing_given t.value (entries_are_text es) c.without_key.result c.of_result.result t.meaning (keyless t.meaning (missing_data t.form) t.missing) (reads c.args.reader.reject_duplicates t.form) (found c.args.name.now es)
+    missing_given t.value (entries_are_text es) c.without_key.result c.of_result.result t.meaning (keyless t.meaning (missing_data t.shape) t.missing) (reads c.args.reader.reject_duplicates t.shape) (found c.args.name.now es)
     c.of_result.ensures c.without_key.ensures c.in-Missing.ensures
 
 pub returns-in-One : goal.returns-in-One
@@ -22,7 +22,7 @@ returns-in-One g c =
     let t = g.F.FieldType.table in
     let es = entries_view c.args.entries in
     let n = tree_of c.in-One.node.now in
-    found_given t.value (entries_are_text es) c.of_node.result c.of_result-in-One.result t.meaning (keyless t.meaning (missing_data t.form) t.missing) (reads c.args.reader.reject_duplicates t.form) (found c.args.name.now es) n
+    found_given t.value (entries_are_text es) c.of_node.result c.of_result-in-One.result t.meaning (keyless t.meaning (missing_data t.shape) t.missing) (reads c.args.reader.reject_duplicates t.shape) (found c.args.name.now es) n
     c.of_result-in-One.ensures c.of_node.ensures c.in-One.ensures (found_bad c.args.name.now es n [] c.in-One.ensures)
 
 pub returns-in-Several : goal.returns-in-Several
@@ -30,5 +30,5 @@ returns-in-Several g c =
     let t = g.F.FieldType.table in
     let es = entries_view c.args.entries in
     let two = c.in-Several.ensures in
-    several_exit (entries_are_text es) c.of.result c.duplicate_field.result t.meaning (keyless t.meaning (missing_data t.form) t.missing) (reads c.args.reader.reject_duplicates t.form) (found c.args.name.now es) two.0 two.1 two.2
+    several_exit (entries_are_text es) c.of.result c.duplicate_field.result t.meaning (keyless t.meaning (missing_data t.shape) t.missing) (reads c.args.reader.reject_duplicates t.shape) (found c.args.name.now es) two.0 two.1 two.2
     c.of.ensures c.duplicate_field.ensures two.3

@@ -20,7 +20,7 @@ returns-in_err-fields g c =
     let es = entries_view c.args.entries in
     let u = unknown_of c.args.unknown in
     let reject_duplicates = c.args.reader.reject_duplicates in
-    let fs = t.form (texts c.args.names.now) in
+    let fs = t.shape (texts c.args.names.now) in
     let m = t.meaning (texts c.args.names.now) in
     let e = c.in_err-fields.field-0.0 in
     let read = by_names reject_duplicates fs m es in
@@ -33,7 +33,7 @@ returns-in_err-of_result g c =
     let es = entries_view c.args.entries in
     let u = unknown_of c.args.unknown in
     let reject_duplicates = c.args.reader.reject_duplicates in
-    let fs = t.form (texts c.args.names.now) in
+    let fs = t.shape (texts c.args.names.now) in
     let m = t.meaning (texts c.args.names.now) in
     let known = keys_are_names (fields_of fs) es || are_ignored u in
     let e = c.in_err-of_result.field-0.0 in
@@ -46,7 +46,7 @@ returns-in-Ok g c =
     let es = entries_view c.args.entries in
     let u = unknown_of c.args.unknown in
     let reject_duplicates = c.args.reader.reject_duplicates in
-    let fs = t.form (texts c.args.names.now) in
+    let fs = t.shape (texts c.args.names.now) in
     let m = t.meaning (texts c.args.names.now) in
     let known = keys_are_names (fields_of fs) es || are_ignored u in
     names_ok u reject_duplicates fs m es (t.value c.in_ok-fields.fields) c.in-Ok.ensures.text
@@ -59,7 +59,7 @@ returns-in-Err g c =
     let es = entries_view c.args.entries in
     let u = unknown_of c.args.unknown in
     let reject_duplicates = c.args.reader.reject_duplicates in
-    let fs = t.form (texts c.args.names.now) in
+    let fs = t.shape (texts c.args.names.now) in
     let m = t.meaning (texts c.args.names.now) in
     narrowed_rejects (entries_are_text es) c.of.result c.into_error.result (names_read u reject_duplicates fs m es) c.of.ensures
     (names_broken u reject_duplicates fs m es c.into_error.result c.in-Err.ensures.text c.into_error.ensures)

@@ -21,7 +21,7 @@ pub returns-in_err-item : goal.returns-in_err-item
 returns-in_err-item g c =
     let l = c.loop-i in
     let xs = items_view c.args.items in
-    let r : Tree → Option g.T.Deserialize.table.Value = λ t. option_and_then g.T.Deserialize.table.meaning (reads c.args.reader.reject_duplicates g.T.Deserialize.table.form t) in
+    let r : Tree → Option g.T.Deserialize.table.Value = λ t. option_and_then g.T.Deserialize.table.meaning (reads c.args.reader.reject_duplicates g.T.Deserialize.table.shape t) in
     gives_exit (λ (ys : Vec g.row.T.Denot Global). map g.T.Deserialize.table.value ys.items) true (are_text xs) c.from_residual-in_err-item.result c.in_err-item.field-0.0 (first_item (drop l.i xs)) (each_value r xs)
     c.from_residual-in_err-item.ensures.1 c.in_err-item.ensures (λ none. l.invariant ∙ value_rejected r xs l.i (map g.T.Deserialize.table.value l.values.items) none) (λ f. absurd (false≢true (sym f)))
 
@@ -30,7 +30,7 @@ returns-in_err-from_node g c =
     let l = c.loop-i in
     let xs = items_view c.args.items in
     let n = tree_of c.in-Some.item.now in
-    let r : Tree → Option g.T.Deserialize.table.Value = λ t. option_and_then g.T.Deserialize.table.meaning (reads c.args.reader.reject_duplicates g.T.Deserialize.table.form t) in
+    let r : Tree → Option g.T.Deserialize.table.Value = λ t. option_and_then g.T.Deserialize.table.meaning (reads c.args.reader.reject_duplicates g.T.Deserialize.table.shape t) in
     let h : first_item (drop l.i xs) ≡ Some (Some n) = c.in_ok-item.ensures ∙ ap (λ o. Some (option_map (λ v. tree_of v.now) o)) c.in-Some.is in
     gives_exit (λ (ys : Vec g.row.T.Denot Global). map g.T.Deserialize.table.value ys.items) (is_text n) (are_text xs) c.from_residual-in_err-from_node.result c.in_err-from_node.field-0.0 (r n) (each_value r xs)
     c.from_residual-in_err-from_node.ensures.1 c.in_err-from_node.ensures.node (λ none. l.invariant ∙ value_unread r xs l.i (map g.T.Deserialize.table.value l.values.items) n h none) (due_bad l.i xs n h)
@@ -40,7 +40,7 @@ loop-i-preserved g c =
     let l = c.loop-i in
     let xs = items_view c.args.items in
     let n = tree_of c.in-Some.item.now in
-    let r : Tree → Option g.T.Deserialize.table.Value = λ t. option_and_then g.T.Deserialize.table.meaning (reads c.args.reader.reject_duplicates g.T.Deserialize.table.form t) in
+    let r : Tree → Option g.T.Deserialize.table.Value = λ t. option_and_then g.T.Deserialize.table.meaning (reads c.args.reader.reject_duplicates g.T.Deserialize.table.shape t) in
     let ws = map g.T.Deserialize.table.value l.values.items in
     let v = g.T.Deserialize.table.value c.in_ok-from_node.field-0 in
     let h : first_item (drop l.i xs) ≡ Some (Some n) = c.in_ok-item.ensures ∙ ap (λ o. Some (option_map (λ v. tree_of v.now) o)) c.in-Some.is in
@@ -51,7 +51,7 @@ pub returns : goal.returns
 returns g c =
     let l = c.loop-i in
     let xs = items_view c.args.items in
-    let r : Tree → Option g.T.Deserialize.table.Value = λ t. option_and_then g.T.Deserialize.table.meaning (reads c.args.reader.reject_duplicates g.T.Deserialize.table.form t) in
+    let r : Tree → Option g.T.Deserialize.table.Value = λ t. option_and_then g.T.Deserialize.table.meaning (reads c.args.reader.reject_duplicates g.T.Deserialize.table.shape t) in
     let ws = map g.T.Deserialize.table.value l.values.items in
     elim c.loop-i-test.branch [
       | else-loop-i-test w ↦ l.invariant ∙ value_all r xs l.i ws (omega (arith, c.len-i-end.ensures, w.loop-i-test.false))

@@ -9,5 +9,5 @@ use Rattle.serde_qs.proofs.types.lists.values_of.Given as goal
 
 abbrev pub invariant-loop-i : goal.invariant-loop-i
 invariant-loop-i g l =
-    let r : Tree → Option g.T.Deserialize.table.Value = λ node. option_and_then g.T.Deserialize.table.meaning (reads l.fn.reader.reject_duplicates g.T.Deserialize.table.form node) in
+    let r : Tree → Option g.T.Deserialize.table.Value = λ node. option_and_then g.T.Deserialize.table.meaning (reads l.fn.reader.reject_duplicates g.T.Deserialize.table.shape node) in
     each_value r (items_view l.fn.items) ≡ before (map g.T.Deserialize.table.value l.values.items) (each_value r (drop l.i (items_view l.fn.items)))

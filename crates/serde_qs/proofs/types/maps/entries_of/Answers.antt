@@ -24,7 +24,7 @@ returns-in_err-key g c =
     let l = c.loop-i in
     let es = entries_view c.args.entries in
     let value = g.T.Deserialize.table.value in
-    let r : Tree → Option g.T.Deserialize.table.Value = λ t. option_and_then g.T.Deserialize.table.meaning (reads c.args.reader.reject_duplicates g.T.Deserialize.table.form t) in
+    let r : Tree → Option g.T.Deserialize.table.Value = λ t. option_and_then g.T.Deserialize.table.meaning (reads c.args.reader.reject_duplicates g.T.Deserialize.table.shape t) in
     gives_exit (λ (m : BTreeMap (String Global) g.row.T.Denot). values_by_text value m) (keys_are_text es) (entries_are_text es) c.from_residual.result c.in_err-key.field-0.0
     (first_entry (entries_after l.i es)) (entries_onto r nowhere es) c.from_residual.ensures.1 c.in_err-key.ensures
     (λ none. l.invariant ∙ entry_rejected r (entries_after l.i es) (values_by_text value l.values) none) (keys_bad es)
@@ -36,7 +36,7 @@ returns-in_err-value g c =
     let value = g.T.Deserialize.table.value in
     let n = tree_of c.in-Some.node.now in
     let key = string_bytes c.in-Some.key in
-    let r : Tree → Option g.T.Deserialize.table.Value = λ t. option_and_then g.T.Deserialize.table.meaning (reads c.args.reader.reject_duplicates g.T.Deserialize.table.form t) in
+    let r : Tree → Option g.T.Deserialize.table.Value = λ t. option_and_then g.T.Deserialize.table.meaning (reads c.args.reader.reject_duplicates g.T.Deserialize.table.shape t) in
     let f = values_by_text value l.values in
     let h : first_entry (entries_after l.i es) ≡ Some (Some (key, n)) = c.in_ok-key.ensures ∙ ap (λ o. Some (option_map (λ e. (string_bytes e.0, tree_of e.1.now)) o)) c.in-Some.is in
     gives_exit (λ (m : BTreeMap (String Global) g.row.T.Denot). values_by_text value m) (is_text n) (entries_are_text es) c.from_residual-in_err-value.result c.in_err-value.field-0.0
@@ -52,7 +52,7 @@ loop-i-preserved g c =
     let n = tree_of c.in-Some.node.now in
     let key = string_bytes c.in-Some.key in
     let v = value c.in_ok-value.value in
-    let r : Tree → Option g.T.Deserialize.table.Value = λ t. option_and_then g.T.Deserialize.table.meaning (reads c.args.reader.reject_duplicates g.T.Deserialize.table.form t) in
+    let r : Tree → Option g.T.Deserialize.table.Value = λ t. option_and_then g.T.Deserialize.table.meaning (reads c.args.reader.reject_duplicates g.T.Deserialize.table.shape t) in
     let f = values_by_text value l.values in
     let rest = entries_after (l.i + 1) es in
     let h : first_entry (entries_after l.i es) ≡ Some (Some (key, n)) = c.in_ok-key.ensures ∙ ap (λ o. Some (option_map (λ e. (string_bytes e.0, tree_of e.1.now)) o)) c.in-Some.is in
@@ -64,7 +64,7 @@ pub returns : goal.returns
 returns g c =
     let l = c.loop-i in
     let es = entries_view c.args.entries in
-    let r : Tree → Option g.T.Deserialize.table.Value = λ t. option_and_then g.T.Deserialize.table.meaning (reads c.args.reader.reject_duplicates g.T.Deserialize.table.form t) in
+    let r : Tree → Option g.T.Deserialize.table.Value = λ t. option_and_then g.T.Deserialize.table.meaning (reads c.args.reader.reject_duplicates g.T.Deserialize.table.shape t) in
     let f = values_by_text g.T.Deserialize.table.value l.values in
     elim c.loop-i-test.branch [
       | else-loop-i-test w ↦ l.invariant ∙ entry_all r l.i es f (omega (arith, c.len-i-end.ensures, w.loop-i-test.false))

@@ -10,5 +10,5 @@ use Rattle.serde_qs.proofs.types.maps.entries_of.Given as goal
 
 abbrev pub invariant-loop-i : goal.invariant-loop-i
 invariant-loop-i g l =
-    let r : Tree → Option g.T.Deserialize.table.Value = λ node. option_and_then g.T.Deserialize.table.meaning (reads l.fn.reader.reject_duplicates g.T.Deserialize.table.form node) in
+    let r : Tree → Option g.T.Deserialize.table.Value = λ node. option_and_then g.T.Deserialize.table.meaning (reads l.fn.reader.reject_duplicates g.T.Deserialize.table.shape node) in
     entries_onto r nowhere (entries_view l.fn.entries) ≡ entries_onto r (values_by_text g.T.Deserialize.table.value l.values) (entries_after l.i (entries_view l.fn.entries))

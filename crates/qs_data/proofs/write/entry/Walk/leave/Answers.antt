@@ -9,6 +9,6 @@ returns c = λ config path s at len.
     record {
       settings = at.settings;
       depth = omega (arith, at.depth, length-append path (s ∷ []));
-      text = cut ∙ ap (take c.args.len) at.text ∙ ap (λ n. take n (path_after config.form (path ++ s ∷ []))) len ∙ path_left config.form path s;
+      text = cut ∙ ap (take c.args.len) at.text ∙ ap (λ n. take n (path_after config.is_form (path ++ s ∷ []))) len ∙ path_left config.is_form path s;
       visible = subst (All IsVisible) (sym cut) (All-take IsVisible c.args.len items at.visible);
     }

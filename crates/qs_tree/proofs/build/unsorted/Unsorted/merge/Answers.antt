@@ -1,5 +1,5 @@
-use Rattle.qs_tree.proofs.Common.{nil_from_length, ◌++◌, ◌∷◌, [], length, sym, ap, ◌∙◌, append-nil, append_assoc, arith, false, same_Some, none-some, into_iter_items, add_flat, update, marked_segment_of_key, leaf_held, entries_held, entries_of_leaves}
-use Rattle.qs_tree.proofs.lemmas.build.Unsorted.{added_flat}
+use Rattle.qs_tree.proofs.Common.{nil_from_length, ◌++◌, ◌∷◌, [], length, sym, ap, ◌∙◌, append-nil, append_assoc, arith, false, same_Some, none-some, into_iter_items, add_to_leaves, update, parsed_segment_of_key, leaf_held, entries_held, entries_of_leaves}
+use Rattle.qs_tree.proofs.lemmas.build.Unsorted.{added_to_leaves}
 use Rattle.qs_tree.proofs.build.unsorted.Unsorted.merge.Goals as goal
 
 pub loop-entry-init : goal.loop-entry-init
@@ -20,7 +20,7 @@ loop-entry-preserved c =
     let added = rw c.of.ensures at rw c.in-Ok.is at c.add_leaf_at.ensures in
     record {
       front = front ++ entry ∷ [];
-      same = same_Some _ _ (sym added ∙ ap (update (marked_segment_of_key entry.0) (add_flat false (leaf_held entry.1))) c.loop-entry.invariant.same ∙ added_flat front entry.0 entry.1);
+      same = same_Some _ _ (sym added ∙ ap (update (parsed_segment_of_key entry.0) (add_to_leaves false (leaf_held entry.1))) c.loop-entry.invariant.same ∙ added_to_leaves front entry.0 entry.1);
       all = rw append_assoc all;
       size = omega (arith, c.loop-entry.invariant.size, ap length c.in-Some.ensures.steps.0, c.in-Some.ensures.steps.1);
     }
@@ -37,5 +37,5 @@ unreachable-requires c =
     let front = c.loop-entry.invariant.front in
     let is = c.in-Err-Conflict.field-0-is in
     let rejected = rw c.of.ensures at c.in-Err-Conflict.ensures in
-    let added = ap (update (marked_segment_of_key entry.0) (add_flat false (leaf_held entry.1))) c.loop-entry.invariant.same ∙ added_flat front entry.0 entry.1 in
+    let added = ap (update (parsed_segment_of_key entry.0) (add_to_leaves false (leaf_held entry.1))) c.loop-entry.invariant.same ∙ added_to_leaves front entry.0 entry.1 in
     none-some _ (sym (rejected (λ memory. absurd (cc (is, memory)))) ∙ added)

@@ -4,7 +4,7 @@ use Rattle.qs_tree.proofs.scan.cursor.Cursor.run_from.Goals as goal
 
 pub returns-clause-run : goal.returns-clause-run
 returns-clause-run c =
-    let start = c.args.place.rest.now in
+    let start = c.args.position.rest.now in
     let old = c.args.self.now.rest.now in
     let raw = c.split_at.result.0.now in
     let whole : old ≡ raw ++ c.split_at.result.1.now = sym (ap₂ ◌++◌ c.split_at.ensures.front c.split_at.ensures.back ∙ take-append-drop c.run_len-len.result.0 old) in
@@ -13,7 +13,7 @@ returns-clause-run c =
 
 pub returns-clause-bytes : goal.returns-clause-bytes
 returns-clause-bytes c =
-    let start = c.args.place.rest.now in
+    let start = c.args.position.rest.now in
     let old = c.args.self.now.rest.now in
     let raw = c.split_at.result.0.now in
     let rest = c.split_at.result.1.now in
@@ -24,4 +24,4 @@ returns-clause-bytes c =
 
 pub returns-clause-kind : goal.returns-clause-kind
 returns-clause-kind c = stop_kind (ends_of c.args.until) (left c.args.self.now) c.next.result (left c.next.new.self)
-    (sym c.run_len-len.ensures.stop ∙ ap (tokens c.args.self.now.form) (sym c.split_at.ensures.back) ∙ c.next.ensures.token)
+    (sym c.run_len-len.ensures.stop ∙ ap (tokens c.args.self.now.is_form) (sym c.split_at.ensures.back) ∙ c.next.ensures.token)

@@ -16,7 +16,7 @@ from_places-requires g c =
     let r = g.R.Fields.table in
     let reject_duplicates = c.args.reader.reject_duplicates in
     let names = texts c.args.names.now in
-    others_differ t.missing t.meaning r.meaning reject_duplicates t.form r.form names c.split.result.0.now (texts c.split.result.1.now) c.split.ensures.first c.split.ensures.others c.requires
+    others_differ t.missing t.meaning r.meaning reject_duplicates t.shape r.shape names c.split.result.0.now (texts c.split.result.1.now) c.split.ensures.first c.split.ensures.others c.requires
 
 pub returns-in_err-first : goal.returns-in_err-first
 returns-in_err-first g c =
@@ -25,9 +25,9 @@ returns-in_err-first g c =
     let reject_duplicates = c.args.reader.reject_duplicates in
     let names = texts c.args.names.now in
     let xs = items_from (map tree_of c.args.items.now) in
-    let whole = field_by_place t.missing t.meaning r.meaning reject_duplicates t.form r.form names c.split.result.0.now (texts c.split.result.1.now) c.split.ensures.first c.split.ensures.others c.requires xs in
-    first_unread _ (items_are_text xs) (items_are_text xs) c.from_residual.result c.in_err-first.field-0.0 _ (value_placed t.meaning (absent t.missing) (reads reject_duplicates t.form) xs)
-    (by_places reject_duplicates (r.form (texts c.split.result.1.now)) (r.meaning (texts c.split.result.1.now)) (items_after xs)) c.from_residual.ensures.1 c.in_err-first.ensures whole (λ f. f)
+    let whole = field_by_place t.missing t.meaning r.meaning reject_duplicates t.shape r.shape names c.split.result.0.now (texts c.split.result.1.now) c.split.ensures.first c.split.ensures.others c.requires xs in
+    first_unread _ (items_are_text xs) (items_are_text xs) c.from_residual.result c.in_err-first.field-0.0 _ (value_placed t.meaning (absent t.missing) (reads reject_duplicates t.shape) xs)
+    (by_places reject_duplicates (r.shape (texts c.split.result.1.now)) (r.meaning (texts c.split.result.1.now)) (items_after xs)) c.from_residual.ensures.1 c.in_err-first.ensures whole (λ f. f)
 
 pub returns-in_err-others : goal.returns-in_err-others
 returns-in_err-others g c =
@@ -38,11 +38,11 @@ returns-in_err-others g c =
     let xs = items_from (map tree_of c.args.items.now) in
     let ys = items_from (map tree_of c.after.result.now) in
     let named = r.meaning (texts c.split.result.1.now) in
-    let fs = r.form (texts c.split.result.1.now) in
-    let whole = field_by_place t.missing t.meaning r.meaning reject_duplicates t.form r.form names c.split.result.0.now (texts c.split.result.1.now) c.split.ensures.first c.split.ensures.others c.requires xs in
-    others_unread _ (items_are_text ys) (items_are_text xs) c.from_residual-in_err-others.result c.in_err-others.field-0.0 _ (value_placed t.meaning (absent t.missing) (reads reject_duplicates t.form) xs)
+    let fs = r.shape (texts c.split.result.1.now) in
+    let whole = field_by_place t.missing t.meaning r.meaning reject_duplicates t.shape r.shape names c.split.result.0.now (texts c.split.result.1.now) c.split.ensures.first c.split.ensures.others c.requires xs in
+    others_unread _ (items_are_text ys) (items_are_text xs) c.from_residual-in_err-others.result c.in_err-others.field-0.0 _ (value_placed t.meaning (absent t.missing) (reads reject_duplicates t.shape) xs)
     (by_places reject_duplicates fs named ys) c.from_residual-in_err-others.ensures.1 c.in_err-others.ensures
-    (whole ∙ ap (λ zs. both (value_placed t.meaning (absent t.missing) (reads reject_duplicates t.form) xs) (by_places reject_duplicates fs named zs)) (sym c.after.ensures)) (after_bad xs ys c.after.ensures)
+    (whole ∙ ap (λ zs. both (value_placed t.meaning (absent t.missing) (reads reject_duplicates t.shape) xs) (by_places reject_duplicates fs named zs)) (sym c.after.ensures)) (after_bad xs ys c.after.ensures)
 
 pub returns : goal.returns
 returns g c =
@@ -52,6 +52,6 @@ returns g c =
     let names = texts c.args.names.now in
     let xs = items_from (map tree_of c.args.items.now) in
     let named = r.meaning (texts c.split.result.1.now) in
-    let fs = r.form (texts c.split.result.1.now) in
-    let whole = field_by_place t.missing t.meaning r.meaning reject_duplicates t.form r.form names c.split.result.0.now (texts c.split.result.1.now) c.split.ensures.first c.split.ensures.others c.requires xs in
+    let fs = r.shape (texts c.split.result.1.now) in
+    let whole = field_by_place t.missing t.meaning r.meaning reject_duplicates t.shape r.shape names c.split.result.0.now (texts c.split.result.1.now) c.split.ensures.first c.split.ensures.others c.requires xs in
     both_read _ _ _ _ _ whole c.in_ok-first.ensures (ap (by_places reject_duplicates fs named) (sym c.after.ensures) ∙ c.in_ok-others.ensures)

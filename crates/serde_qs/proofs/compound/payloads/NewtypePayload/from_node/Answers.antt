@@ -15,13 +15,13 @@ returns-in_err-from_node g c = λ name.
     let o = option_map (λ v. tree_of v.now) c.args.held in
     let n = tree_of c.in_ok-node.node.now in
     let here : o ≡ Some n = c.in_ok-node.ensures in
-    gives_exit _ (is_text n) (held_is_text o) c.from_residual-in_err-from_node.result c.in_err-from_node.field-0.0 (option_and_then t.meaning (reads reject_duplicates t.form n)) _
+    gives_exit _ (is_text n) (held_is_text o) c.from_residual-in_err-from_node.result c.in_err-from_node.field-0.0 (option_and_then t.meaning (reads reject_duplicates t.shape n)) _
     c.from_residual-in_err-from_node.ensures.1 c.in_err-from_node.ensures.node
-    (λ none. newtype_held t.meaning reject_duplicates t.form name o ∙ ap (option_and_then (λ x. option_and_then t.meaning (reads reject_duplicates t.form x))) here ∙ none) (λ f. ap held_is_text here ∙ f)
+    (λ none. newtype_held t.meaning reject_duplicates t.shape name o ∙ ap (option_and_then (λ x. option_and_then t.meaning (reads reject_duplicates t.shape x))) here ∙ none) (λ f. ap held_is_text here ∙ f)
 
 pub returns : goal.returns
 returns g c = λ name.
     let t = g.T.Deserialize.table in
     let reject_duplicates = c.args.reader.reject_duplicates in
     let o = option_map (λ v. tree_of v.now) c.args.held in
-    newtype_held t.meaning reject_duplicates t.form name o ∙ ap (option_and_then (λ x. option_and_then t.meaning (reads reject_duplicates t.form x))) c.in_ok-node.ensures ∙ c.in_ok-from_node.ensures.node
+    newtype_held t.meaning reject_duplicates t.shape name o ∙ ap (option_and_then (λ x. option_and_then t.meaning (reads reject_duplicates t.shape x))) c.in_ok-node.ensures ∙ c.in_ok-from_node.ensures.node

@@ -14,7 +14,7 @@ returns-in_err-fields_of_struct g c =
     let t = g.S.Held.Fields.table in
     let n = tree_of c.args.node.now in
     let reject_duplicates = c.args.reader.reject_duplicates in
-    let fs = t.form (texts c.args.names.now) in
+    let fs = t.shape (texts c.args.names.now) in
     let m = t.meaning (texts c.args.names.now) in
     record {
       node = gives_exit _ (is_text n) (is_text n) c.from_residual.result (error_of c.in_err-fields_of_struct.field-0.0) (members_read (unknown_of c.unknown.result) reject_duplicates fs m n) _ c.from_residual.ensures.1 c.in_err-fields_of_struct.ensures
@@ -26,6 +26,6 @@ returns g c =
     let t = g.S.Held.Fields.table in
     let n = tree_of c.args.node.now in
     let reject_duplicates = c.args.reader.reject_duplicates in
-    let fs = t.form (texts c.args.names.now) in
+    let fs = t.shape (texts c.args.names.now) in
     let m = t.meaning (texts c.args.names.now) in
     record { node = sym (struct_read g.S.HoldsFields.unknown reject_duplicates fs m n) ∙ ap (λ u. members_read u reject_duplicates fs m n) (sym c.unknown.ensures) ∙ c.in_ok-fields_of_struct.ensures ∙ ap (λ x. Some (t.value x)) (sym c.holding.ensures) }

@@ -16,7 +16,7 @@ pub returns-in_err-fields_of_variant : goal.returns-in_err-fields_of_variant
 returns-in_err-fields_of_variant g c = λ name.
     let t = g.S.Held.Fields.table in
     let reject_duplicates = c.args.reader.reject_duplicates in
-    let fs = t.form (texts c.args.names.now) in
+    let fs = t.shape (texts c.args.names.now) in
     let m = t.meaning (texts c.args.names.now) in
     let o = option_map (λ v. tree_of v.now) c.args.held in
     let n = tree_of c.in_ok-node.node.now in
@@ -30,7 +30,7 @@ pub returns : goal.returns
 returns g c = λ name.
     let t = g.S.Held.Fields.table in
     let reject_duplicates = c.args.reader.reject_duplicates in
-    let fs = t.form (texts c.args.names.now) in
+    let fs = t.shape (texts c.args.names.now) in
     let m = t.meaning (texts c.args.names.now) in
     let o = option_map (λ v. tree_of v.now) c.args.held in
     let n = tree_of c.in_ok-node.node.now in

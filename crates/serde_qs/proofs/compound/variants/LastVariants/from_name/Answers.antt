@@ -18,9 +18,9 @@ returns-in_err-from_node g c =
     let own = c.split.result.0.now in
     let rest = texts c.split.result.1.now in
     let same : bytes_eq own name ≡ true = ap (λ x. bytes_eq x name) (sym c.as_bytes.ensures.value) ∙ sym c.if-eq.ensures in
-    gives_exit _ (held_is_text o) (is_utf8 name && held_is_text o) c.from_residual.result c.in_err-from_node.field-0.0 (option_and_then (t.meaning rest) (kind_held reject_duplicates (t.form rest) own o)) _
+    gives_exit _ (held_is_text o) (is_utf8 name && held_is_text o) c.from_residual.result c.in_err-from_node.field-0.0 (option_and_then (t.meaning rest) (kind_held reject_duplicates (t.shape rest) own o)) _
     c.from_residual.ensures.1 (c.in_err-from_node.ensures own)
-    (λ none. last_here t.meaning t.form reject_duplicates (texts c.args.names.now) name o own rest c.split.ensures.first c.split.ensures.others same ∙ none) (and_right (is_utf8 name) (held_is_text o))
+    (λ none. last_here t.meaning t.shape reject_duplicates (texts c.args.names.now) name o own rest c.split.ensures.first c.split.ensures.others same ∙ none) (and_right (is_utf8 name) (held_is_text o))
 
 pub returns-in_ok-from_node : goal.returns-in_ok-from_node
 returns-in_ok-from_node g c =
@@ -29,7 +29,7 @@ returns-in_ok-from_node g c =
     let o = option_map (λ v. tree_of v.now) c.args.held in
     let own = c.split.result.0.now in
     let same : bytes_eq own name ≡ true = ap (λ x. bytes_eq x name) (sym c.as_bytes.ensures.value) ∙ sym c.if-eq.ensures in
-    last_here t.meaning t.form c.args.reader.reject_duplicates (texts c.args.names.now) name o own (texts c.split.result.1.now) c.split.ensures.first c.split.ensures.others same ∙ c.in_ok-from_node.ensures own
+    last_here t.meaning t.shape c.args.reader.reject_duplicates (texts c.args.names.now) name o own (texts c.split.result.1.now) c.split.ensures.first c.split.ensures.others same ∙ c.in_ok-from_node.ensures own
 
 pub returns-else-eq : goal.returns-else-eq
 returns-else-eq g c =
@@ -39,4 +39,4 @@ returns-else-eq g c =
     let own = c.split.result.0.now in
     let other : bytes_eq own name ≡ false = ap (λ x. bytes_eq x name) (sym c.as_bytes.ensures.value) ∙ sym c.if-eq.ensures in
     rejected {Y = Unit {0}} (is_utf8 name) (is_utf8 name && held_is_text o) c.unknown_variant.result None _ c.unknown_variant.ensures
-    (λ none. last_other t.meaning t.form c.args.reader.reject_duplicates (texts c.args.names.now) name o own (texts c.split.result.1.now) c.split.ensures.first c.split.ensures.others other) (and_left (is_utf8 name) (held_is_text o))
+    (λ none. last_other t.meaning t.shape c.args.reader.reject_duplicates (texts c.args.names.now) name o own (texts c.split.result.1.now) c.split.ensures.first c.split.ensures.others other) (and_left (is_utf8 name) (held_is_text o))

@@ -24,8 +24,8 @@ returns-in_err-items g c =
     let reject_duplicates = c.args.reader.reject_duplicates in
     record {
       node = gives_exit (λ (xs : Vec g.row.T.Denot Global). map g.T.Deserialize.table.value xs.items) true (is_text n) c.from_residual.result c.in_err-items.field-0.0 (items n)
-          (option_and_then (sequence_in m) (reads reject_duplicates (s.Shape.sequence g.T.Deserialize.table.form) n)) c.from_residual.ensures.1 c.in_err-items.ensures.exact
-          (λ none. sequence_read m reject_duplicates g.T.Deserialize.table.form n ∙ ap (option_and_then (each_value (λ t. option_and_then m (reads reject_duplicates g.T.Deserialize.table.form t)))) none)
+          (option_and_then (sequence_in m) (reads reject_duplicates (s.Shape.sequence g.T.Deserialize.table.shape) n)) c.from_residual.ensures.1 c.in_err-items.ensures.exact
+          (λ none. sequence_read m reject_duplicates g.T.Deserialize.table.shape n ∙ ap (option_and_then (each_value (λ t. option_and_then m (reads reject_duplicates g.T.Deserialize.table.shape t)))) none)
           (λ f. absurd (false≢true (sym f)));
     }
 
@@ -35,9 +35,9 @@ returns g c =
     let m = g.T.Deserialize.table.meaning in
     let reject_duplicates = c.args.reader.reject_duplicates in
     let xs = items_view c.in_ok-items.items in
-    let r : Tree → Option g.T.Deserialize.table.Value = λ t. option_and_then m (reads reject_duplicates g.T.Deserialize.table.form t) in
+    let r : Tree → Option g.T.Deserialize.table.Value = λ t. option_and_then m (reads reject_duplicates g.T.Deserialize.table.shape t) in
     record {
       node = widened (λ (ys : Vec g.row.T.Denot Global). map g.T.Deserialize.table.value ys.items) (are_text xs) (is_text n) c.values_of.result (each_value r xs)
-          (option_and_then (sequence_in m) (reads reject_duplicates (s.Shape.sequence g.T.Deserialize.table.form) n)) c.values_of.ensures
-          (sym (sequence_read m reject_duplicates g.T.Deserialize.table.form n ∙ ap (option_and_then (each_value r)) c.in_ok-items.ensures.exact)) c.in_ok-items.ensures.text;
+          (option_and_then (sequence_in m) (reads reject_duplicates (s.Shape.sequence g.T.Deserialize.table.shape) n)) c.values_of.ensures
+          (sym (sequence_read m reject_duplicates g.T.Deserialize.table.shape n ∙ ap (option_and_then (each_value r)) c.in_ok-items.ensures.exact)) c.in_ok-items.ensures.text;
     }

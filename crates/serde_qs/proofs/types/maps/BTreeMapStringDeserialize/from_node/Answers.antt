@@ -23,11 +23,11 @@ returns-in_err-entries g c =
     let n = tree_of c.args.node.now in
     let m = g.T.Deserialize.table.meaning in
     let reject_duplicates = c.args.reader.reject_duplicates in
-    let form = g.T.Deserialize.table.form in
+    let shape = g.T.Deserialize.table.shape in
     record {
       node = gives_exit (λ (x : BTreeMap (String Global) g.row.T.Denot). values_by_text g.T.Deserialize.table.value x) true (is_text n) c.from_residual.result c.in_err-entries.field-0.0 (node_entries n)
-          (option_and_then (mapping_in m) (reads reject_duplicates (s.Shape.mapping s.KeyShape.text form) n)) c.from_residual.ensures.1 c.in_err-entries.ensures.exact
-          (λ none. mapping_read m reject_duplicates form n ∙ ap (option_and_then (entries_onto (λ t. option_and_then m (reads reject_duplicates form t)) nowhere)) none)
+          (option_and_then (mapping_in m) (reads reject_duplicates (s.Shape.mapping s.KeyShape.text shape) n)) c.from_residual.ensures.1 c.in_err-entries.ensures.exact
+          (λ none. mapping_read m reject_duplicates shape n ∙ ap (option_and_then (entries_onto (λ t. option_and_then m (reads reject_duplicates shape t)) nowhere)) none)
           (λ f. absurd (false≢true (sym f)));
     }
 
@@ -36,11 +36,11 @@ returns g c =
     let n = tree_of c.args.node.now in
     let m = g.T.Deserialize.table.meaning in
     let reject_duplicates = c.args.reader.reject_duplicates in
-    let form = g.T.Deserialize.table.form in
+    let shape = g.T.Deserialize.table.shape in
     let es = entries_view c.in_ok-entries.entries in
-    let r : Tree → Option g.T.Deserialize.table.Value = λ t. option_and_then m (reads reject_duplicates form t) in
+    let r : Tree → Option g.T.Deserialize.table.Value = λ t. option_and_then m (reads reject_duplicates shape t) in
     record {
       node = widened (λ (x : BTreeMap (String Global) g.row.T.Denot). values_by_text g.T.Deserialize.table.value x) (entries_are_text es) (is_text n) c.entries_of.result (entries_onto r nowhere es)
-          (option_and_then (mapping_in m) (reads reject_duplicates (s.Shape.mapping s.KeyShape.text form) n)) c.entries_of.ensures
-          (sym (mapping_read m reject_duplicates form n ∙ ap (option_and_then (entries_onto r nowhere)) c.in_ok-entries.ensures.exact)) c.in_ok-entries.ensures.text;
+          (option_and_then (mapping_in m) (reads reject_duplicates (s.Shape.mapping s.KeyShape.text shape) n)) c.entries_of.ensures
+          (sym (mapping_read m reject_duplicates shape n ∙ ap (option_and_then (entries_onto r nowhere)) c.in_ok-entries.ensures.exact)) c.in_ok-entries.ensures.text;
     }

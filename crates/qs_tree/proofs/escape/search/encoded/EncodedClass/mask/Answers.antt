@@ -12,11 +12,11 @@ overflow_add-result c =
     omega (arith, mask_with_spaces v, mask_l-lt all, few)
 
 pub returns-then-self : goal.returns-then-self
-returns-then-self c = c.form_mask.ensures ∙ ap (λ form. class_mask (is_encoded form) c.args.bytes.now c.args.at 32) (sym c.if-self.true)
+returns-then-self c = c.form_mask.ensures ∙ ap (λ is_form. class_mask (is_encoded is_form) c.args.bytes.now c.args.at 32) (sym c.if-self.true)
 
 pub returns-else-self : goal.returns-else-self
 returns-else-self c =
     let v = chunk c.args.at 32 c.args.bytes.now in
     let spaces : c.mask.result ≡ mask_l (map (λ b. b == 32) v) = c.mask.ensures in
     let escapes : c.query_mask.result ≡ mask_l (map (is_escaped false) v) = c.query_mask.ensures in
-    omega (arith, mask_with_spaces v) ∙ ap (λ form. class_mask (is_encoded form) c.args.bytes.now c.args.at 32) (sym c.if-self.false)
+    omega (arith, mask_with_spaces v) ∙ ap (λ is_form. class_mask (is_encoded is_form) c.args.bytes.now c.args.at 32) (sym c.if-self.false)

@@ -1,6 +1,0 @@
-use Rattle.std.proofs.Common.{◌≡◌, drop}
-use Rattle.qs_explain.specs.PairRange.{key_from, key_len}
-use Rattle.qs_explain.proofs.place.find_key_len.Given as goal
-
-abbrev pub invariant-loop-at : goal.invariant-loop-at
-invariant-loop-at l = key_from l.form l.max_depth l.place l.at l.before.0 l.before.1 (drop l.at l.pair) ≡ key_len l.form l.max_depth l.pair

@@ -1,4 +1,0 @@
-use Rattle.qs_serde.proofs.writing.kept.float.Goals as goal
-
-pub returns : goal.returns
-returns g c = (c.as_bytes.result.now, c.scalar.ensures)

@@ -117,7 +117,7 @@ impl<'a, T: Serialize, R: References + Drop> References for (SkipNone<'a, T>, R)
     }
 }
 
-/// References to fields whose values come back, for [`Out::fields`](crate::Exit::fields).
+/// References to fields whose values come back, for [`Out::fields`](crate::Destination::fields).
 ///
 /// ```
 /// out.fields(NAMES, (&self.x, (&self.y, ())))
@@ -182,7 +182,7 @@ impl<'a, T: Serialize, R: ItemReferences + Drop> ItemReferences for (&'a T, R) {
     }
 }
 
-/// References to items whose values come back, for [`Out::items`](crate::Exit::items).
+/// References to items whose values come back, for [`Out::items`](crate::Destination::items).
 ///
 /// ```
 /// out.items((&self.0, (&self.1, ())))

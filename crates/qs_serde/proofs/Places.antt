@@ -1,58 +1,28 @@
 -- Where a format is after it moved.
-use Rattle.std.proofs.Common.{◌≡◌, ℕ, zero, suc, ◌+◌, ◌-◌, ◌<◌, ◌++◌, Bool, true, false, cond, List, [], ◌∷◌, length, map, take, drop, slice_get, get_or, Option, Some, None, option_to_list, refl, sym, ap, subst, ◌∙◌, arith, append-nil}
-use Rattle.std.proofs.Math.Seq.{take-suc}
+use Rattle.std.proofs.Common.{◌≡◌, ℕ, zero, suc, ◌+◌, ◌-◌, ◌<◌, ◌++◌, Bool, true, false, cond, List, [], ◌∷◌, length, take, drop, slice_get, Option, Some, None, option_to_list, refl, sym, ap, subst, ◌∙◌, arith, append-nil}
 use Rattle.std.proofs.lemmas.Option.{same_Some}
-use Rattle.std.specs.Option.{option_map}
+use Rattle.std.specs.Option.{IsSome, option_map}
 use Rattle.std.specs.Borrow.{Bor}
-use Rattle.std.specs.Slice.{IsItemAt}
 use Rattle.qs_spec.specs.Leaf.Leaf.{NoValue, Null, Text}
-use Rattle.qs_spec.specs.Node.{are_ints, is_place, items, placed, sequence_items}
+use Rattle.qs_spec.specs.Node.{are_ints, is_place, items, placed}
 use Rattle.qs_spec.specs.Segment.{ParsedSegment}
 use Rattle.qs_spec.specs.Tree.{Tree, Entries}
 use Rattle.qs_spec.specs.Tree.Tree.{leaf, sequence, mapping, uninitialized}
 use Rattle.qs_tree.specs.declared.tree.value.ParsedValue.{ParsedValue}
-use Rattle.qs_tree.specs.tree.Views.{tree_of, entry_list, items_from}
+use Rattle.qs_tree.specs.tree.Views.{tree_of, entry_list}
 use Rattle.qs_data.specs.read.Entries.{node_entries}
 use Rattle.qs_data.specs.read.Items.{first_item}
-use Rattle.qs_data.proofs.lemmas.read.Items.{place_here, first_none, item_first}
+use Rattle.qs_data.proofs.lemmas.read.Items.{place_here, first_none}
 use Rattle.qs_serde.specs.Nodes.{listed, pairs_in}
-use Rattle.qs_serde.specs.Places.{IsAt, child_at, count_of, frames, item_or, kind_of, last_part, node_by, part_tree, passed, value_or}
-use Rattle.qs_serde.specs.Steps.{Begins, ComesBack, HasParts, Moves}
+use Rattle.qs_serde.specs.Places.{IsAt, Lead, child_at, count_of, innermost, item_or, kind_of, last_part, opens, part_tree, passed, value_or}
+use Rattle.qs_serde.specs.Steps.{Begins, ComesBack, HasParts, Leaves, Moves}
 use Rattle.qs_serde.specs.declared.reading.frame.Frame.{Frame}
+use Rattle.qs_serde.specs.declared.reading.frame.Outer.{Outer}
 use Rattle.qs_serde.specs.declared.reading.frame.FrameKind.{FrameKind}
 use Rattle.qs_serde.specs.declared.reading.frame.FrameKind.TheVariants as k
 use Rattle.qs_serde.specs.declared.reading.node.Part.{Part}
 use Rattle.qs_serde.specs.declared.reading.format.TreeFormat.{TreeFormat}
 use Rattle.qs_serde.specs.declared.reading.format.Mark.{Mark}
-
--- the item of a sequence
-pub sequence_child : (t r : Tree) (ts ds : List ParsedValue) (i : ℕ) (o : Option (Bor ParsedValue)) → t ≡ sequence (items_from (map tree_of ts)) → ds ≡ ts → IsItemAt ds i o
-    → r ≡ item_or t (Some (option_map (λ v. tree_of v.now) o)) → r ≡ child_at t i
-sequence_child t r ts ds i o is same at found =
-    let P : List ParsedValue → Type 0 = λ xs. IsItemAt xs i o in
-    found ∙ ap (item_or t) (sym (item_first ts i o (subst P same at)))
-    ∙ ap (λ u. item_or u (first_item (drop i (sequence_items (items_from (map tree_of ts)))))) is
-    ∙ ap (λ u. child_at u i) (sym is)
-
--- one more open list or map
-pub node_by_more : (t : Tree) (fs : List Frame) (f : Frame) → node_by t (fs ++ f ∷ []) ≡ last_part (node_by t fs) f.next
-node_by_more t [] f = refl
-node_by_more t (g ∷ fs) f = node_by_more (last_part t g.next) fs f
-
--- all of them, the innermost last
-pub node_by_all : (t : Tree) (fs : List Frame) (o : Option Frame) → node_by t (fs ++ option_to_list o) ≡ last_part (node_by t fs) (passed o)
-node_by_all t fs None = ap (node_by t) (append-nil fs)
-node_by_all t fs (Some f) = node_by_more t fs f
-
--- one more of them is passed on the way from the root
-pub came_to : (t : Tree) (fs gs : List Frame) (i : ℕ) (n r : Tree) → gs ≡ fs → i < length gs → n ≡ node_by t (take i fs)
-    → (d : Frame) → r ≡ last_part n (get_or gs i d).next → r ≡ node_by t (take (i + 1) fs)
-came_to t fs gs i n r same lt at d is =
-    let P : List Frame → Type 0 = λ xs. i < length xs in
-    let more : suc i ≡ i + 1 = omega arith in
-    is ∙ ap (λ (xs : List Frame). last_part n (get_or xs i d).next) same ∙ ap (λ m. last_part m (get_or fs i d).next) at
-    ∙ sym (node_by_more t (take i fs) (get_or fs i d)) ∙ ap (node_by t) (sym (take-suc fs i d (subst P same lt)))
-    ∙ ap (λ k. node_by t (take k fs)) more
 
 -- a part that comes is the node at its index
 no_part : (i : ℕ) (u : Tree) → first_item (drop i []) ≡ Some (Some u) → {A : Type 0} → A
@@ -112,59 +82,89 @@ has_entries uninitialized es h = absurd cc
 pub has_map : (t : Tree) (es : Entries) → node_entries t ≡ Some es → HasParts k.Map t
 has_map t es h = has_entries t es h
 
+-- open lists and maps lead to one more, and back
+leads_in : (outers : List Outer) (outer : Outer) (t u : Tree) → Lead outers t (tree_of outer.top.now) → u ≡ last_part (tree_of outer.top.now) outer.frame.next → Lead (outers ++ outer ∷ []) t u
+leads_in [] outer t u h is = (h, is ∙ ap (λ v. last_part v outer.frame.next) h)
+leads_in (o ∷ outers) outer t u h is = (h.0, leads_in outers outer (last_part t o.frame.next) u h.1 is)
+
+leads_out : (outers : List Outer) (outer : Outer) (t u : Tree) → Lead (outers ++ outer ∷ []) t u → Lead outers t (tree_of outer.top.now) × (u ≡ last_part (tree_of outer.top.now) outer.frame.next)
+leads_out [] outer t u h = (h.0, h.1 ∙ ap (λ v. last_part v outer.frame.next) (sym h.0))
+leads_out (o ∷ outers) outer t u h = let out = leads_out outers outer (last_part t o.frame.next) u h.1 in ((h.0, out.0), out.1)
+
+leads_on : (outers : List Outer) (top : Bor ParsedValue) (frame : Option Frame) (t u : Tree) → Lead outers t (tree_of top.now) → u ≡ last_part (tree_of top.now) (passed frame)
+    → Lead (outers ++ option_to_list (innermost top frame)) t u
+leads_on outers top None t u h is = subst (λ os. Lead os t u) (sym (append-nil outers)) (subst (λ v. Lead outers t v) (sym is) h)
+leads_on outers top (Some frame) t u h is = leads_in outers (record { frame = frame; top = top }) t u h is
+
 -- a list or a map was begun
-pub begun : (old new : TreeFormat) (kind : FrameKind) → new.frame ≡ Some (record { kind = kind; next = 0; field = 0 }) → new.around.items ≡ frames old → new.top ≡ old.node → new.node ≡ old.node
-    → new.part ≡ old.part → new.reader ≡ old.reader → new.root ≡ old.root → new.search ≡ old.search → Begins old kind new
-begun old new kind frame around top node part reader root search = record {
+pub begun : (old new : TreeFormat) (kind : FrameKind) → new.frame ≡ Some (record { kind = kind; next = 0; field = 0 }) → new.around.items ≡ opens old → new.top ≡ old.node → new.node ≡ old.node
+    → new.part ≡ old.part → new.reader ≡ old.reader → new.search ≡ old.search → Begins old kind new
+begun old new kind frame around top node part reader search = record {
   frame = frame;
   around = around;
   top = top;
   node = node;
   part = part;
-  keeps = (reader, root, search, place);
+  keeps = (reader, search, place);
 } where
   place : IsAt old → IsAt new
   place h = (
-    ap (λ (v : Bor ParsedValue). tree_of v.now) top ∙ h.1 ∙ ap (λ t. last_part t (count_of old)) h.0
-        ∙ sym (node_by_all (tree_of old.root.now) old.around.items old.frame)
-        ∙ ap (λ (v : Bor ParsedValue). node_by (tree_of v.now) (frames old)) (sym root) ∙ ap (node_by (tree_of new.root.now)) (sym around),
+    (h.0.0, subst (λ os. Lead os h.0.0 (tree_of new.top.now)) (sym around) (subst (λ (v : Bor ParsedValue). Lead (opens old) h.0.0 (tree_of v.now)) (sym top) (leads_on old.around.items old.top old.frame h.0.0 (tree_of old.node.now) h.0.1 h.1))),
     ap (λ (v : Bor ParsedValue). tree_of v.now) (node ∙ sym top) ∙ ap (λ o. last_part (tree_of new.top.now) (passed o)) (sym frame),
+  )
+
+some_open : (outers : List Outer) (outer : Outer) → 0 < length (outers ++ outer ∷ [])
+some_open [] outer = omega arith
+some_open (o ∷ outers) outer = omega arith
+
+-- the innermost list or map was left
+pub left : (old new : TreeFormat) (outer : Outer) → old.around.items ≡ new.around.items ++ outer ∷ [] → new.frame ≡ Some outer.frame → new.top ≡ outer.top
+    → new.node ≡ old.top → new.reader ≡ old.reader → new.search ≡ old.search → Leaves old new
+left old new outer around frame top node reader search = (
+  around ∙ ap (λ f. new.around.items ++ option_to_list (innermost outer.top f)) (sym frame) ∙ ap (λ v. new.around.items ++ option_to_list (innermost v new.frame)) (sym top),
+  (λ _. subst (λ os. 0 < length os) (sym around) (some_open new.around.items outer), λ _. subst IsSome (sym frame) refl),
+  node,
+  (reader, search, place),
+) where
+  place : IsAt old → IsAt new
+  place h = let out = leads_out new.around.items outer h.0.0 (tree_of old.top.now) (subst (λ os. Lead os h.0.0 (tree_of old.top.now)) around h.0.1) in (
+    (h.0.0, subst (λ (v : Bor ParsedValue). Lead new.around.items h.0.0 (tree_of v.now)) (sym top) out.0),
+    ap (λ (v : Bor ParsedValue). tree_of v.now) node ∙ out.1 ∙ ap (λ (v : Bor ParsedValue). last_part (tree_of v.now) outer.frame.next) (sym top)
+        ∙ ap (λ o. last_part (tree_of new.top.now) (passed o)) (sym frame),
   )
 
 -- the innermost list or map is gone on in
 pub moved : (old new : TreeFormat) (frame : Frame) → kind_of old ≡ Some frame.kind → new.frame ≡ Some (record frame { next = suc frame.next }) → new.around.items ≡ old.around.items
-    → new.top ≡ old.top → new.reader ≡ old.reader → new.root ≡ old.root → new.search ≡ old.search → child_at (tree_of old.top.now) frame.next ≡ tree_of new.node.now → Moves frame.next old new
-moved old new frame kind last around top reader root search child = record {
+    → new.top ≡ old.top → new.reader ≡ old.reader → new.search ≡ old.search → child_at (tree_of old.top.now) frame.next ≡ tree_of new.node.now → Moves frame.next old new
+moved old new frame kind last around top reader search child = record {
   count = ap passed last;
   kind = ap (option_map (λ (f : Frame). f.kind)) last ∙ sym kind;
   around = around;
   top = top;
-  keeps = (reader, root, search, place);
+  keeps = (reader, search, place);
 } where
   place : IsAt old → IsAt new
   place h = (
-    ap (λ (v : Bor ParsedValue). tree_of v.now) top ∙ h.0 ∙ ap (λ (v : Bor ParsedValue). node_by (tree_of v.now) old.around.items) (sym root)
-        ∙ ap (node_by (tree_of new.root.now)) (sym around),
+    (h.0.0, subst (λ os. Lead os h.0.0 (tree_of new.top.now)) (sym around) (subst (λ (v : Bor ParsedValue). Lead old.around.items h.0.0 (tree_of v.now)) (sym top) h.0.1)),
     sym child ∙ ap (λ (v : Bor ParsedValue). child_at (tree_of v.now) frame.next) (sym top) ∙ ap (λ o. last_part (tree_of new.top.now) (passed o)) (sym last),
   )
 
 -- the format came back to a mark
-pub comes_back : (mark : Mark) (old new : TreeFormat) → new.around.items ≡ take mark.depth old.around.items → new.frame ≡ mark.frame → new.root ≡ old.root → new.reader ≡ old.reader
-    → new.part ≡ mark.part → IsAt new → ComesBack mark old new
-comes_back mark old new around frame root reader part at marked is place above = record {
+pub comes_back : (mark : Mark) (old new : TreeFormat) → new.around.items ≡ take mark.depth old.around.items → new.frame ≡ mark.frame → new.top ≡ mark.top → new.node ≡ mark.node
+    → new.part ≡ mark.part → new.reader ≡ old.reader → ComesBack mark old new
+comes_back mark old new around frame top node part reader marked is above = record {
   frame = same;
   around = outer;
-  top = top;
-  node = node;
-  part = part ∙ is.2;
-  root = root ∙ above.1;
-  reader = reader ∙ above.2;
+  top = whole;
+  node = here;
+  part = part ∙ is.4;
+  reader = reader ∙ above.1;
   next =
-      ap (λ (q : Part). part_tree q (tree_of new.node.now) (tree_of new.top.now) (count_of new - 1)) (part ∙ is.2)
-      ∙ ap (λ t. part_tree marked.part t (tree_of new.top.now) (count_of new - 1)) node
-      ∙ ap (λ t. part_tree marked.part (tree_of marked.node.now) t (count_of new - 1)) top
+      ap (λ (q : Part). part_tree q (tree_of new.node.now) (tree_of new.top.now) (count_of new - 1)) (part ∙ is.4)
+      ∙ ap (λ (v : Bor ParsedValue). part_tree marked.part (tree_of v.now) (tree_of new.top.now) (count_of new - 1)) here
+      ∙ ap (λ (v : Bor ParsedValue). part_tree marked.part (tree_of marked.node.now) (tree_of v.now) (count_of new - 1)) whole
       ∙ ap (λ o. part_tree marked.part (tree_of marked.node.now) (tree_of marked.top.now) (passed o - 1)) same;
-  place = at;
+  place = place;
 } where
   same : new.frame ≡ marked.frame
   same = frame ∙ is.1
@@ -172,11 +172,15 @@ comes_back mark old new around frame root reader part at marked is place above =
   outer : new.around.items ≡ marked.around.items
   outer = around ∙ ap (λ n. take n old.around.items) is.0 ∙ above.0
 
-  top : tree_of new.top.now ≡ tree_of marked.top.now
-  top =
-      at.0 ∙ ap (λ (v : Bor ParsedValue). node_by (tree_of v.now) new.around.items) (root ∙ above.1)
-      ∙ ap (node_by (tree_of marked.root.now)) outer ∙ sym place.0
+  whole : new.top ≡ marked.top
+  whole = top ∙ is.2
 
-  node : tree_of new.node.now ≡ tree_of marked.node.now
-  node =
-      at.1 ∙ ap (λ t. last_part t (count_of new)) top ∙ ap (λ o. last_part (tree_of marked.top.now) (passed o)) same ∙ sym place.1
+  here : new.node ≡ marked.node
+  here = node ∙ is.3
+
+  place : IsAt marked → IsAt new
+  place h = (
+    (h.0.0, subst (λ os. Lead os h.0.0 (tree_of new.top.now)) (sym outer) (subst (λ (v : Bor ParsedValue). Lead marked.around.items h.0.0 (tree_of v.now)) (sym whole) h.0.1)),
+    ap (λ (v : Bor ParsedValue). tree_of v.now) here ∙ h.1 ∙ ap (λ (v : Bor ParsedValue). last_part (tree_of v.now) (count_of marked)) (sym whole)
+        ∙ ap (λ o. last_part (tree_of new.top.now) (passed o)) (sym same),
+  )

@@ -1,16 +1,20 @@
 -- The error of a value that isn't written.
-use Rattle.std.specs.Prelude.{◌≡◌, Some}
+use Rattle.std.specs.Prelude.{◌≡◌, ℕ, List, string_bytes}
 use Rattle.qs_spec.specs.Config.{Config}
-use Rattle.qs_tree.specs.Error.{IsCustomSaying}
 use Rattle.qs_tree.specs.declared.error.Error.{Error}
 use Rattle.qs_tree.specs.declared.error.Error.TheVariants as e
 use Rattle.qs_data.specs.write.Errors.{error_of}
+use Rattle.qs_serde.specs.Placed.{IsMemory}
 use Rattle.qs_serde.specs.declared.writing.halt.Halt.{Halt}
-use Rattle.qs_serde.specs.declared.writing.halt.Halt.TheVariants.{Custom, Misplaced, Stopped, Failed}
+use Rattle.qs_serde.specs.declared.writing.halt.Halt.TheVariants.{Custom, Stopped, Failed}
 
 -- of a value that was written under a configuration
 abbrev pub IsHaltError : Config → Halt → Error → Type 0
-IsHaltError config (Custom message) error = error ≡ e.Custom message
-IsHaltError config (Misplaced reason) error = IsCustomSaying error (Some reason.now)
+IsHaltError config (Custom message) error = error ≡ e.Custom message.value
 IsHaltError config (Stopped stop) error = error ≡ error_of config stop
 IsHaltError config Failed error = error ≡ e.Failed
+
+-- with this message, unless an allocation failed
+abbrev pub IsHaltSaying : List ℕ → Halt → Type 0
+IsHaltSaying text (Custom message) = string_bytes message.value ≡ text
+IsHaltSaying text halt = IsMemory halt

@@ -1,16 +1,19 @@
 -- Where a format is in its tree: the node that the open lists and maps lead to, and what the next step reads.
 use Rattle.std.specs.Prelude.{◌≡◌, ℕ, zero, suc, ◌-◌, List, [], ◌∷◌, ◌++◌, drop, slice_get, Option, Some, None, option_map, option_to_list}
+use Rattle.std.specs.Borrow.{Bor}
 use Rattle.qs_spec.specs.Leaf.Leaf.{NoValue}
 use Rattle.qs_spec.specs.Segment.{ParsedSegment}
 use Rattle.qs_spec.specs.Tree.{Tree}
 use Rattle.qs_spec.specs.Tree.Tree.{leaf, sequence, mapping}
 use Rattle.qs_spec.specs.Node.{sequence_items}
+use Rattle.qs_tree.specs.declared.tree.value.ParsedValue.{ParsedValue}
 use Rattle.qs_tree.specs.tree.Views.{tree_of, entry_list}
 use Rattle.qs_data.specs.read.Items.{first_item}
 use Rattle.qs_serde.specs.Nodes.{key_tree, pairs_in}
 use Rattle.qs_serde.specs.declared.reading.node.Part.{Part}
 use Rattle.qs_serde.specs.declared.reading.node.Part.TheVariants as p
 use Rattle.qs_serde.specs.declared.reading.frame.Frame.{Frame}
+use Rattle.qs_serde.specs.declared.reading.frame.Outer.{Outer}
 use Rattle.qs_serde.specs.declared.reading.frame.FrameKind.{FrameKind}
 use Rattle.qs_serde.specs.declared.reading.format.TreeFormat.{TreeFormat}
 
@@ -35,14 +38,13 @@ abbrev pub last_part : Tree → ℕ → Tree
 last_part t zero = t
 last_part t (suc i) = child_at t i
 
--- the node that open lists and maps lead to, from the outermost on
-abbrev pub node_by : Tree → List Frame → Tree
-node_by t [] = t
-node_by t (frame ∷ frames) = node_by (last_part t frame.next) frames
+-- the innermost list or map, with its node
+abbrev pub innermost : Bor ParsedValue → Option Frame → Option Outer
+innermost top frame = option_map (λ f. record { frame = f; top = top }) frame
 
 -- the open lists and maps, the innermost last
-abbrev pub frames : TreeFormat → List Frame
-frames f = f.around.items ++ option_to_list f.frame
+abbrev pub opens : TreeFormat → List Outer
+opens f = f.around.items ++ option_to_list (innermost f.top f.frame)
 
 -- how many items or entries of a list or a map were reached
 abbrev pub passed : Option Frame → ℕ
@@ -57,10 +59,15 @@ count_of f = passed f.frame
 abbrev pub kind_of : TreeFormat → Option FrameKind
 kind_of f = option_map (λ frame. frame.kind) f.frame
 
--- The format is where its open lists and maps lead from the root: `top` is the innermost, and `node` is the current node in it.
+-- Open lists and maps, the outermost first, lead from a node to another: each is the current node of the one around it.
+abbrev pub Lead : List Outer → Tree → Tree → Type 0
+Lead [] t u = u ≡ t
+Lead (outer ∷ outers) t u = (tree_of outer.top.now ≡ t) × Lead outers (last_part t outer.frame.next) u
+
+-- The format is where its open lists and maps lead from some root: `top` is the innermost, and `node` is the current node in it.
 abbrev pub IsAt : TreeFormat → Type 0
 IsAt f =
-    (tree_of f.top.now ≡ node_by (tree_of f.root.now) f.around.items)
+    ((root : Tree) × Lead f.around.items root (tree_of f.top.now))
     × (tree_of f.node.now ≡ last_part (tree_of f.top.now) (count_of f))
 
 -- a part of the current node

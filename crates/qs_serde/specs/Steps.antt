@@ -14,7 +14,7 @@ use Rattle.serde.specs.Event.{Event, boolean, signed, unsigned, single, double, 
 use Rattle.serde.specs.declared.name.Name.{Name}
 use Rattle.qs_serde.specs.Nodes.{IsEntry, key_tree, listed, pairs_in}
 use Rattle.qs_serde.specs.Lookups.{LooksUp}
-use Rattle.qs_serde.specs.Places.{IsAt, count_of, frames, kind_of, tree_at}
+use Rattle.qs_serde.specs.Places.{IsAt, count_of, kind_of, opens, tree_at}
 use Rattle.qs_serde.specs.declared.reading.node.Node.{Node}
 use Rattle.qs_serde.specs.declared.reading.node.Part.{Part}
 use Rattle.qs_serde.specs.declared.reading.node.Part.TheVariants as p
@@ -28,9 +28,9 @@ use Rattle.qs_serde.specs.declared.reading.format.Mark.{Mark}
 abbrev pub IsPlain : TreeFormat → Type 0
 IsPlain f = f.search.in_order ≡ false
 
--- A step keeps the tree and how it is read. A format that is where its lists and maps lead is so afterwards, too.
+-- A step keeps how the tree is read. A format that is where its lists and maps lead is so afterwards, too.
 abbrev pub Keeps : TreeFormat → TreeFormat → Type 0
-Keeps old new = (new.reader ≡ old.reader) × (new.root ≡ old.root) × (new.search ≡ old.search) × (IsAt old → IsAt new)
+Keeps old new = (new.reader ≡ old.reader) × (new.search ≡ old.search) × (IsAt old → IsAt new)
 
 -- the value is next after its key
 abbrev pub part_after : Part → Part
@@ -109,15 +109,15 @@ HasParts k.Map t = option_map entry_list (node_entries t) ≡ Some (pairs_in t)
 -- The list or the map of the node that is next was begun as this kind, and is before its first item or entry.
 pub record Begins (old : TreeFormat) (kind : FrameKind) (new : TreeFormat) : Type 0 where
   pub frame : new.frame ≡ Some (record { kind = kind; next = 0; field = 0 })
-  pub around : new.around.items ≡ frames old
+  pub around : new.around.items ≡ opens old
   pub top : new.top ≡ old.node
   pub node : new.node ≡ old.node
   pub part : new.part ≡ old.part
   pub keeps : Keeps old new
 
--- The innermost list or map was left: the one around it, if there is one, is the innermost again.
+-- The innermost list or map was left: the one around it, if there is one, is the innermost again, and what was left is its current node.
 abbrev pub Leaves : TreeFormat → TreeFormat → Type 0
-Leaves old new = (old.around.items ≡ frames new) × (IsSome new.frame ↔ (0 < length old.around.items)) × Keeps old new
+Leaves old new = (old.around.items ≡ opens new) × (IsSome new.frame ↔ (0 < length old.around.items)) × (new.node ≡ old.top) × Keeps old new
 
 -- The format went to this index of the innermost list or map, and the next index is next. The lists and maps around it are as they were.
 pub record Moves (i : ℕ) (old new : TreeFormat) : Type 0 where
@@ -203,24 +203,23 @@ Picks old false names at new = LooksUp (tree_at old) names at × Notes old new
 
 -- the mark was made at this place
 abbrev pub IsMark : Mark → TreeFormat → Type 0
-IsMark mark f = (mark.depth ≡ length f.around.items) × (mark.frame ≡ f.frame) × (mark.part ≡ f.part)
+IsMark mark f = (mark.depth ≡ length f.around.items) × (mark.frame ≡ f.frame) × (mark.top ≡ f.top) × (mark.node ≡ f.node) × (mark.part ≡ f.part)
 
--- The format reads the same tree as at the mark, and the lists and maps around the one that was the innermost then are as they were.
+-- The lists and maps around the one that was the innermost at the mark are as they were.
 abbrev pub IsAbove : TreeFormat → TreeFormat → Type 0
-IsAbove marked old = (take (length marked.around.items) old.around.items ≡ marked.around.items) × (old.root ≡ marked.root) × (old.reader ≡ marked.reader)
+IsAbove marked old = (take (length marked.around.items) old.around.items ≡ marked.around.items) × (old.reader ≡ marked.reader)
 
 -- the format is where it was at the mark
 pub record IsBack (marked new : TreeFormat) : Type 0 where
   pub frame : new.frame ≡ marked.frame
   pub around : new.around.items ≡ marked.around.items
-  pub top : tree_of new.top.now ≡ tree_of marked.top.now
-  pub node : tree_of new.node.now ≡ tree_of marked.node.now
+  pub top : new.top ≡ marked.top
+  pub node : new.node ≡ marked.node
   pub part : new.part ≡ marked.part
-  pub root : new.root ≡ marked.root
   pub reader : new.reader ≡ marked.reader
   pub next : tree_at new ≡ tree_at marked
-  pub place : IsAt new
+  pub place : IsAt marked → IsAt new
 
 -- a rewind to the mark comes back to where it was made
 abbrev pub ComesBack : Mark → TreeFormat → TreeFormat → Type 0
-ComesBack mark old new = (marked : TreeFormat) → IsMark mark marked → IsAt marked → IsAbove marked old → IsBack marked new
+ComesBack mark old new = (marked : TreeFormat) → IsMark mark marked → IsAbove marked old → IsBack marked new

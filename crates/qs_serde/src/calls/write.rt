@@ -79,18 +79,18 @@ fn write_text<K: Settings, T: Serialize>(alloc: Global, config: Config, value: &
     let text = Vec::with_capacity(alloc, 128)?;
     let mut serializer: TextSerializer<K> = TextSerializer::over(alloc, config, text);
     let made = value.serialize(&mut serializer);
-    finished(alloc, config, made)?;
+    finished(config, made)?;
     Ok(string_of(serializer.into_text()))
 }
 
 // Returns the result of a serializer's last step as the result of a call.
 #[inline(always)]
-fn finished(alloc: Global, config: Config, made: Result<(), Halt>) -> Result<()>
+fn finished(config: Config, made: Result<(), Halt>) -> Result<()>
     ensures { OnOk result (IsOkAnd made (λ _. ⊤)) }
 {
     match made {
         Ok(()) => Ok(()),
-        Err(halt) => Err(halt.into_error(alloc, config)),
+        Err(halt) => Err(halt.into_error(config)),
     }
 }
 
@@ -134,7 +134,7 @@ fn write_to<K: Settings, T: Serialize, W: Write>(
 {
     let mut serializer: TextSerializer<K> = TextSerializer::new(alloc, config)?;
     let sent = value.serialize(&mut serializer);
-    let made = finished(alloc, config, sent);
+    let made = finished(config, sent);
     if let Err(Error::OutOfMemory) = made {
         return made;
     }

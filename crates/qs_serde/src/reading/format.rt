@@ -10,8 +10,8 @@ ghost use Rattle.qs_serde.specs.Places.{IsAt, child_at, count_of, kind_of, part_
 ghost use Rattle.qs_serde.specs.Steps.{Begins, IsPlain, Leaves, Moves, Takes, next_node};
 
 use super::Result;
-use super::frame::{Frame, FrameKind};
-use super::node::{Node, Part, entry_at, last_of};
+use super::frame::{Frame, FrameKind, Outer};
+use super::node::{Node, Part, entry_at};
 use qs_data::{Reader, Width};
 use qs_tree::{Config, ParsedValue};
 use serde::{Deserialize, Deserializer};
@@ -29,7 +29,6 @@ use std::alloc::Global;
 #[derive(Drop)]
 pub struct TreeFormat<'t, 'qs> {
     pub(crate) reader: Reader,
-    pub(crate) root: &'t ParsedValue<'qs>,
     // The innermost open list or map; the root if none is open.
     pub(crate) top: &'t ParsedValue<'qs>,
     // The current node in it, and which part of that node is read next.
@@ -37,7 +36,7 @@ pub struct TreeFormat<'t, 'qs> {
     pub(crate) part: Part,
     // The innermost open list or map, if one is open, and the ones around it, the innermost last.
     pub(crate) frame: Option<Frame>,
-    pub(crate) around: Vec<Frame>,
+    pub(crate) around: Vec<Outer<'t, 'qs>>,
     // What the type requested of the current node.
     pub(crate) asked: Asked,
     // How many items the list that ended last had, and whether they were the fields of a struct.
@@ -81,9 +80,11 @@ pub(crate) struct Search {
 
 /// A place in a tree that a format can return to.
 #[derive(Clone, Copy)]
-pub struct Mark {
+pub struct Mark<'t, 'qs> {
     pub(crate) depth: usize,
     pub(crate) frame: Option<Frame>,
+    pub(crate) top: &'t ParsedValue<'qs>,
+    pub(crate) node: &'t ParsedValue<'qs>,
     pub(crate) part: Part,
 }
 
@@ -115,7 +116,6 @@ impl<'t, 'qs> TreeFormat<'t, 'qs> {
     {
         TreeFormat {
             reader: Reader::new(alloc, config),
-            root: tree,
             top: tree,
             node: tree,
             part: Part::Value,
@@ -186,39 +186,34 @@ impl<'t, 'qs> TreeFormat<'t, 'qs> {
         ensures errors { IfErr result (λ e. e ≡ OutOfMemory) }
     {
         let around = self.frame;
+        let top = self.top;
         self.frame = Some(Frame::new(kind));
         self.top = self.node;
         match around {
-            Some(frame) => Ok(self.around.push(frame)?),
+            Some(frame) => Ok(self.around.push(Outer { frame, top })?),
             None => Ok(()),
         }
     }
 
-    /// Leaves the innermost list or map.
-    #[inline(always)]
+    /// Leaves the innermost list or map, which is then the current node again.
     pub(crate) fn close(&mut self)
         ensures { Leaves self.old self.new }
     {
-        self.frame = self.around.pop();
-        self.find_place();
+        self.node = self.top;
         self.asked = Asked::Unit;
+        match self.around.pop() {
+            Some(outer) => self.resume(outer),
+            None => self.frame = None,
+        }
     }
 
-    /// Finds the innermost list or map and its current node, from the root.
-    pub(crate) fn find_place(&mut self)
-        ensures kept { self.new ≡ record self.old { top = self.new.top; node = self.new.node } }
-        ensures place { IsAt self.new }
+    // Goes on in the list or map around the one that was left.
+    #[inline(always)]
+    fn resume(&mut self, outer: Outer<'t, 'qs>)
+        ensures { self.new ≡ record self.old { frame = Some outer.entry.frame; top = outer.entry.top } }
     {
-        let mut top = self.root;
-        for frame in &self.around {
-            top = last_of(top, frame.next);
-        }
-        let count = match self.frame {
-            Some(frame) => frame.next,
-            None => 0,
-        };
-        self.top = top;
-        self.node = last_of(top, count);
+        self.frame = Some(outer.frame);
+        self.top = outer.top;
     }
 
     /// Goes to this item or value of the innermost list or map, which is at the frame's index.

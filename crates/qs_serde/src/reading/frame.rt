@@ -2,6 +2,8 @@
 
 ghost use Rattle.std.specs.Prelude.{◌≡◌, ◌<◌, ◌-◌, suc};
 
+use qs_tree::ParsedValue;
+
 /// A list or a map that is being read.
 #[derive(Clone, Copy)]
 pub(crate) struct Frame {
@@ -10,6 +12,14 @@ pub(crate) struct Frame {
     pub(crate) next: usize,
     /// The next field, if fields are read in their own order.
     pub(crate) field: usize,
+}
+
+/// A list or a map that is being read, with another open in it.
+#[derive(Clone, Copy)]
+pub(crate) struct Outer<'t, 'qs> {
+    pub(crate) frame: Frame,
+    /// Its node.
+    pub(crate) top: &'t ParsedValue<'qs>,
 }
 
 /// What is read from it.

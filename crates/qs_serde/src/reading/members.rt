@@ -7,7 +7,7 @@ ghost use Rattle.serde.specs.Event.{map_ends};
 ghost use Rattle.qs_tree.specs.tree.Views.{tree_of};
 ghost use Rattle.qs_data.specs.read.internal.ReadError.{ReadGives};
 ghost use Rattle.qs_data.specs.read.TreeText.{is_text};
-ghost use Rattle.qs_serde.specs.Errors.{IsStepError};
+ghost use Rattle.qs_serde.specs.Errors.{FailsOn, IsStepError};
 ghost use Rattle.qs_serde.specs.Nodes.{pairs_in};
 ghost use Rattle.qs_serde.specs.Places.{count_of, kind_of};
 ghost use Rattle.qs_serde.specs.Steps.{Comes, EntryComes, EntryIs, HasNoItem, HasParts, Leaves, Picks, Reads, next_node, next_struct};
@@ -93,7 +93,7 @@ impl<'t, 'qs> TreeFormat<'t, 'qs> {
     ) -> Result<Option<usize>>
         ensures some { kind_of self.old ≡ Some frame.kind → IfOk result (λ o. IfSome o (λ at. EntryIs frame.next names.now at self.old self.new)) }
         ensures none { IfOk result (λ o. IfNone o ((slice_get (pairs_in (tree_of self.old.top.now)) frame.next ≡ None) × Leaves self.old self.new)) }
-        ensures errors { IfErr result (IsStepError (is_text (tree_of self.old.top.now))) }
+        ensures errors { FailsOn (tree_of self.old.top.now) result }
     {
         let map = self.top;
         let Some(key) = self.go_to_entry(frame) else {
@@ -110,7 +110,7 @@ impl<'t, 'qs> TreeFormat<'t, 'qs> {
     #[inline(never)]
     pub(crate) fn go_to_key(&mut self, names: &[Name<'_>]) -> Result<Option<usize>>
         ensures step { IfOk result (λ o. MatchOption o (Reads self.old map_ends self.new) (λ at. Picks self.old true names.now at self.new)) }
-        ensures errors { IfErr result (IsStepError (is_text (tree_of self.old.top.now))) }
+        ensures errors { FailsOn (tree_of self.old.top.now) result }
     {
         let Some(frame) = self.frame else {
             self.close();
@@ -131,7 +131,7 @@ impl<'t, 'qs> TreeFormat<'t, 'qs> {
 
     /// Goes to the next item of a sequence that is read as a struct, and returns the index of its field. Further items are passed over.
     fn go_to_place(&mut self, names: &[Name<'_>], frame: Frame) -> Result<Option<usize>>
-        ensures errors { IfErr result (IsStepError (is_text (tree_of self.old.top.now))) }
+        ensures errors { FailsOn (tree_of self.old.top.now) result }
         ensures step { kind_of self.old ≡ Some frame.kind → count_of self.old ≡ frame.next → IfOk result (λ o. MatchOption o (Leaves self.old self.new) (λ _. Comes self.old self.new)) }
     {
         let Some(at) = first_name(names, frame.field) else {
@@ -149,7 +149,7 @@ impl<'t, 'qs> TreeFormat<'t, 'qs> {
     /// Goes to the next entry of a struct, and returns the index of its field. Entries are in the order of their fields, with other keys
     /// last.
     fn go_to_field(&mut self, names: &[Name<'_>], frame: Frame) -> Result<Option<usize>>
-        ensures errors { IfErr result (IsStepError (is_text (tree_of self.old.top.now))) }
+        ensures errors { FailsOn (tree_of self.old.top.now) result }
         ensures some { kind_of self.old ≡ Some frame.kind → IfOk result (λ o. IfSome o (λ at. (i : ℕ) × EntryIs i names.now at self.old self.new)) }
         ensures none { IfOk result (λ o. IfNone o (Leaves self.old self.new)) }
     {
@@ -204,7 +204,7 @@ impl<'t, 'qs> TreeFormat<'t, 'qs> {
         ensures none { IfOk result (λ o. IfNone o (Leaves self.old self.new)) }
         ensures whole { names.now ≢ [] → IfOk result (λ o. IfNone o (slice_get (pairs_in (tree_of self.old.top.now)) frame.next ≡ None)) }
         ensures end { names.now ≡ [] → result ≡ Ok None }
-        ensures errors { IfErr result (IsStepError (is_text (tree_of self.old.top.now))) }
+        ensures errors { FailsOn (tree_of self.old.top.now) result }
     {
         if names.is_empty() {
             self.close();

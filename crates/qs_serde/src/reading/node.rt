@@ -4,7 +4,7 @@ ghost use Rattle.std.specs.Prelude.{◌≡◌, ◌<◌, drop, false, true, None,
 ghost use Rattle.qs_spec.specs.Leaf.Leaf.{Text};
 ghost use Rattle.qs_spec.specs.Node.{keys_are_text};
 ghost use Rattle.qs_spec.specs.Tree.Tree.{leaf};
-ghost use Rattle.qs_tree.specs.tree.Views.{parsed_segment_of_key, tree_of};
+ghost use Rattle.qs_tree.specs.tree.Views.{tree_of};
 ghost use Rattle.qs_data.specs.data.Views.{data_of};
 ghost use Rattle.qs_data.specs.shape.Views.{shape_of};
 ghost use Rattle.qs_data.specs.read.Items.{first_item, items_view};
@@ -13,7 +13,6 @@ ghost use Rattle.qs_data.specs.read.internal.ReadError.{ReadGives};
 ghost use Rattle.qs_data.specs.read.Keys.{entries_view};
 ghost use Rattle.qs_data.specs.read.TreeText.{is_text};
 ghost use Rattle.qs_serde.specs.Nodes.{IsEntry, listed, node_tree, pairs_in};
-ghost use Rattle.qs_serde.specs.Places.{child_at, item_or, last_part, value_or};
 
 use super::{ReadError, Result};
 use itoa::Buffer;
@@ -152,54 +151,5 @@ pub(crate) fn entry_at<'t, 'qs>(
             }
         }
         _ => None,
-    }
-}
-
-/// Returns the current node of a list or a map after `count` items or entries; the list or map itself before the first.
-#[inline(always)]
-pub(crate) fn last_of<'t, 'qs>(value: &'t ParsedValue<'qs>, count: usize) -> &'t ParsedValue<'qs>
-    ensures { tree_of result.now ≡ last_part (tree_of value.now) count }
-{
-    if count == 0 {
-        value
-    } else {
-        child(value, count - 1)
-    }
-}
-
-// Returns the item or the value at an index, or the node itself if there is none.
-fn child<'t, 'qs>(value: &'t ParsedValue<'qs>, at: usize) -> &'t ParsedValue<'qs>
-    ensures { tree_of result.now ≡ child_at (tree_of value.now) at }
-{
-    match value {
-        ParsedValue::Map(map) => value_or(map.at(at), value),
-        ParsedValue::Sequence(items) => item_or(items.get(at), value),
-        _ => value,
-    }
-}
-
-// Returns the value of an entry, or the other value if there is none.
-fn value_or<'t, 'qs>(
-    entry: Option<(&'t Key<'qs>, &'t ParsedValue<'qs>)>,
-    other: &'t ParsedValue<'qs>,
-) -> &'t ParsedValue<'qs>
-    ensures { tree_of result.now ≡ value_or (tree_of other.now) (option_map (λ e. (parsed_segment_of_key e.0.now, tree_of e.1.now)) entry.entry) }
-{
-    match entry {
-        Some((_, value)) => value,
-        None => other,
-    }
-}
-
-// Returns the item, or the other value if there is none.
-fn item_or<'t, 'qs>(
-    item: Option<&'t ParsedValue<'qs>>,
-    other: &'t ParsedValue<'qs>,
-) -> &'t ParsedValue<'qs>
-    ensures { tree_of result.now ≡ item_or (tree_of other.now) (Some (option_map (λ v. tree_of v.now) item.entry)) }
-{
-    match item {
-        Some(value) => value,
-        None => other,
     }
 }

@@ -2,12 +2,11 @@
 
 #![tactic(auto, using(crate::proofs::Errors::step_errors))]
 
-ghost use Rattle.std.specs.Prelude.{◌≡◌, Bool, IfErr, ◌⊎◌, ◌^◌, ◌≤◌, pos, negsuc, ◌<ℤ◌, IfOk, IfSome, OnOk, Some};
+ghost use Rattle.std.specs.Prelude.{◌≡◌, Bool, ◌⊎◌, ◌^◌, ◌≤◌, pos, negsuc, ◌<ℤ◌, IfOk, IfSome, OnOk, Some};
 ghost use Rattle.qs_spec.specs.Data as d;
 ghost use Rattle.qs_spec.specs.Shape as s;
-ghost use Rattle.qs_data.specs.read.TreeText.{is_text};
-ghost use Rattle.qs_serde.specs.Errors.{IsStepError};
 ghost use Rattle.qs_data.specs.read.Reads.{reads};
+ghost use Rattle.qs_serde.specs.Errors.{FailsOn};
 ghost use Rattle.qs_serde.specs.Nodes.{node_tree};
 ghost use Rattle.qs_serde.specs.Places.{tree_at};
 ghost use Rattle.qs_serde.specs.Steps.{HasText, Is, IsPlain, Notes, Takes};
@@ -54,7 +53,7 @@ impl<'t, 'qs> TreeFormat<'t, 'qs> {
     pub(crate) fn signed(&mut self) -> Result<i64>
         ensures notes { Notes self.old self.new }
         ensures number { IsPlain self.old → IfOk result (λ v. Is self.old (s.Shape.signed 64) (d.signed v)) }
-        ensures errors { IfErr result (IsStepError (is_text (tree_at self.old))) }
+        ensures errors { FailsOn (tree_at self.old) result }
     {
         let asked = Asked::Signed(self.part);
         let node = self.take();
@@ -75,7 +74,7 @@ impl<'t, 'qs> TreeFormat<'t, 'qs> {
     pub(crate) fn unsigned(&mut self) -> Result<u64>
         ensures notes { Notes self.old self.new }
         ensures number { IsPlain self.old → IfOk result (λ v. Is self.old (s.Shape.unsigned 64) (d.unsigned v)) }
-        ensures errors { IfErr result (IsStepError (is_text (tree_at self.old))) }
+        ensures errors { FailsOn (tree_at self.old) result }
     {
         let asked = Asked::Unsigned(self.part);
         let node = self.take();
@@ -96,7 +95,7 @@ impl<'t, 'qs> TreeFormat<'t, 'qs> {
     pub(crate) fn wide_unsigned(&mut self) -> Result<u128>
         ensures takes { Takes self.old self.new }
         ensures number { IfOk result (λ n. 2 ^ 64 ≤ n) }
-        ensures errors { IfErr result (IsStepError (is_text (tree_at self.old))) }
+        ensures errors { FailsOn (tree_at self.old) result }
     {
         let wide: u128 = self.parsed()?;
         if wide > u64::MAX as u128 {
@@ -110,7 +109,7 @@ impl<'t, 'qs> TreeFormat<'t, 'qs> {
     pub(crate) fn wide_signed(&mut self) -> Result<i128>
         ensures takes { Takes self.old self.new }
         ensures number { IfOk result (λ z. (pos 9223372036854775807 <ℤ z) ⊎ (z <ℤ negsuc 9223372036854775807)) }
-        ensures errors { IfErr result (IsStepError (is_text (tree_at self.old))) }
+        ensures errors { FailsOn (tree_at self.old) result }
     {
         let wide: i128 = self.parsed()?;
         if wide > i64::MAX as i128 || wide < i64::MIN as i128 {
@@ -126,7 +125,7 @@ impl<'t, 'qs> TreeFormat<'t, 'qs> {
         T::Err: Drop,
         ensures takes { Takes self.old self.new }
         ensures text { OnOk result (HasText self.old) }
-        ensures errors { IfErr result (IsStepError (is_text (tree_at self.old))) }
+        ensures errors { FailsOn (tree_at self.old) result }
     {
         match self.text()?.as_str().parse::<T>() {
             Ok(value) => Ok(value),

@@ -2,7 +2,7 @@
 
 use super::format::TreeFormat;
 use super::frame::{Frame, FrameKind};
-use super::node::{Node, entry_at, last_of};
+use super::node::{Node, entry_at};
 use qs_tree::{Key, ParsedValue};
 use std::alloc::AllocError;
 use std::fmt::{Display, Write};
@@ -11,13 +11,11 @@ impl<'t, 'qs> TreeFormat<'t, 'qs> {
     /// Returns the path to the current node.
     pub(crate) fn path(&self) -> Result<String, AllocError> {
         let mut path = String::new(self.reader.alloc);
-        let mut value = self.root;
-        for frame in &self.around {
-            append_segment(&mut path, *frame, value)?;
-            value = last_of(value, frame.next);
+        for outer in &self.around {
+            append_segment(&mut path, outer.frame, outer.top)?;
         }
         if let Some(frame) = self.frame {
-            append_segment(&mut path, frame, value)?;
+            append_segment(&mut path, frame, self.top)?;
         }
         Ok(path)
     }

@@ -11,9 +11,8 @@ ghost use Rattle.qs_data.specs.data.Views.{data_of};
 ghost use Rattle.qs_data.specs.shape.Views.{shape_of};
 ghost use Rattle.qs_tree.specs.tree.Views.{items_from, tree_of};
 ghost use Rattle.qs_data.specs.read.Reads.{reads};
-ghost use Rattle.qs_data.specs.read.TreeText.{is_text};
 ghost use Rattle.qs_data.specs.read.internal.GivenText.{given_text};
-ghost use Rattle.qs_serde.specs.Errors.{IsStepError};
+ghost use Rattle.qs_serde.specs.Errors.{FailsOn, IsStepError};
 ghost use Rattle.qs_serde.specs.Nodes.{node_tree};
 ghost use Rattle.qs_serde.specs.Places.{tree_at};
 ghost use Rattle.qs_serde.specs.Steps.{Is, Takes};
@@ -31,7 +30,7 @@ impl<'t, 'qs> TreeFormat<'t, 'qs> {
     /// Reads a node by a shape. If the node is a key that contains a bracket, its error has a hint.
     #[inline(never)]
     pub(crate) fn read_key(&self, node: Node<'t, 'qs>, shape: &Shape) -> Result<Data>
-        ensures errors { IfErr result (IsStepError (is_text (node_tree node.entry))) }
+        ensures errors { FailsOn (node_tree node.entry) result }
         ensures data { IfOk result (λ v. reads self.now.reader.reject_duplicates (shape_of shape.now) (node_tree node.entry) ≡ Some (data_of v)) }
     {
         match node.read(self.reader, shape) {
@@ -44,7 +43,7 @@ impl<'t, 'qs> TreeFormat<'t, 'qs> {
     pub(crate) fn by_shape(&mut self, shape: &Shape) -> Result<Data>
         ensures takes { Takes self.old self.new }
         ensures data { IfOk result (λ v. Is self.old (shape_of shape.now) (data_of v)) }
-        ensures errors { IfErr result (IsStepError (is_text (tree_at self.old))) }
+        ensures errors { FailsOn (tree_at self.old) result }
     {
         let node = self.take();
         self.read_key(node, shape)
@@ -55,7 +54,7 @@ impl<'t, 'qs> TreeFormat<'t, 'qs> {
     pub(crate) fn text(&mut self) -> Result<String>
         ensures takes { Takes self.old self.new }
         ensures text { IfOk result (λ v. Is self.old s.Shape.text (d.text (string_bytes v))) }
-        ensures errors { IfErr result (IsStepError (is_text (tree_at self.old))) }
+        ensures errors { FailsOn (tree_at self.old) result }
     {
         let node = self.take();
         if let Some(text) = plain_text(node) {

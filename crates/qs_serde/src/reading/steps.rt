@@ -7,7 +7,7 @@ ghost use Rattle.serde.specs.Event.{boolean, signed, unsigned, single, double, c
 ghost use Rattle.qs_tree.specs.tree.Views.{tree_of};
 ghost use Rattle.qs_data.specs.read.internal.ReadError.{ReadRejects};
 ghost use Rattle.qs_data.specs.read.TreeText.{is_text};
-ghost use Rattle.qs_serde.specs.Errors.{IsStepError};
+ghost use Rattle.qs_serde.specs.Errors.{FailsOn, IsStepError};
 ghost use Rattle.qs_serde.specs.Places.{tree_at};
 ghost use Rattle.qs_serde.specs.Steps.{BeginsAfterLook, BeginsStruct, HasNoEntry, HasNoItem, ComesBack, IsMark, Picks, Reads, Stays, Takes, next_entries, next_items, next_struct};
 
@@ -26,7 +26,7 @@ use std::alloc::Global;
 impl<'t, 'qs> Format for TreeFormat<'t, 'qs> {
     type Error = ReadError;
 
-    type Mark = Mark;
+    type Mark = Mark<'t, 'qs>;
 
     ghost gives = { λ old _ e new. Reads old e new };
 
@@ -36,7 +36,7 @@ impl<'t, 'qs> Format for TreeFormat<'t, 'qs> {
 
     fn bool(&mut self, _input: &[u8]) -> Result<bool>
         ensures step { IfOk result (λ v. Reads self.old (boolean v) self.new) }
-        ensures errors { IfErr result (IsStepError (is_text (tree_at self.old))) }
+        ensures errors { FailsOn (tree_at self.old) result }
     {
         let read = match self.take() {
             Node::Value(value) => ReadError::of_result(self.reader.boolean(value)),
@@ -50,14 +50,14 @@ impl<'t, 'qs> Format for TreeFormat<'t, 'qs> {
 
     fn i64(&mut self, _input: &[u8]) -> Result<i64>
         ensures step { IfOk result (λ v. Reads self.old (signed v) self.new) }
-        ensures errors { IfErr result (IsStepError (is_text (tree_at self.old))) }
+        ensures errors { FailsOn (tree_at self.old) result }
     {
         self.signed()
     }
 
     fn u64(&mut self, _input: &[u8]) -> Result<u64>
         ensures step { IfOk result (λ v. Reads self.old (unsigned v) self.new) }
-        ensures errors { IfErr result (IsStepError (is_text (tree_at self.old))) }
+        ensures errors { FailsOn (tree_at self.old) result }
     {
         self.unsigned()
     }
@@ -65,7 +65,7 @@ impl<'t, 'qs> Format for TreeFormat<'t, 'qs> {
     // A number that 64 bits hold is read as `i64` reads it.
     fn i128(&mut self, _input: &[u8]) -> Result<i128>
         ensures step { IfOk result (λ v. Reads self.old (signed v) self.new) }
-        ensures errors { IfErr result (IsStepError (is_text (tree_at self.old))) }
+        ensures errors { FailsOn (tree_at self.old) result }
     {
         let part = self.part;
         match self.signed() {
@@ -79,7 +79,7 @@ impl<'t, 'qs> Format for TreeFormat<'t, 'qs> {
 
     fn u128(&mut self, _input: &[u8]) -> Result<u128>
         ensures step { IfOk result (λ v. Reads self.old (unsigned v) self.new) }
-        ensures errors { IfErr result (IsStepError (is_text (tree_at self.old))) }
+        ensures errors { FailsOn (tree_at self.old) result }
     {
         let part = self.part;
         match self.unsigned() {
@@ -93,21 +93,21 @@ impl<'t, 'qs> Format for TreeFormat<'t, 'qs> {
 
     fn f32(&mut self, _input: &[u8]) -> Result<f32>
         ensures step { IfOk result (λ v. Reads self.old (single v) self.new) }
-        ensures errors { IfErr result (IsStepError (is_text (tree_at self.old))) }
+        ensures errors { FailsOn (tree_at self.old) result }
     {
         self.parsed()
     }
 
     fn f64(&mut self, _input: &[u8]) -> Result<f64>
         ensures step { IfOk result (λ v. Reads self.old (double v) self.new) }
-        ensures errors { IfErr result (IsStepError (is_text (tree_at self.old))) }
+        ensures errors { FailsOn (tree_at self.old) result }
     {
         self.parsed()
     }
 
     fn char(&mut self, _input: &[u8]) -> Result<char>
         ensures step { IfOk result (λ v. Reads self.old (character v) self.new) }
-        ensures errors { IfErr result (IsStepError (is_text (tree_at self.old))) }
+        ensures errors { FailsOn (tree_at self.old) result }
     {
         match self.by_shape(&Shape::Char)? {
             Data::Char(value) => Ok(value),
@@ -119,7 +119,7 @@ impl<'t, 'qs> Format for TreeFormat<'t, 'qs> {
     #[tactic(auto, using(crate::proofs::Errors::step_errors, crate::proofs::Borrowed::text_read, qs_data::proofs::lemmas::read::Scalars::scalar_bad))]
     fn plain_str(&mut self, input: &[u8]) -> Result<(usize, usize)>
         ensures step { IfOk result (λ r. Reads self.old (text (slice_range input.now r.0 r.1)) self.new) }
-        ensures errors { IfErr result (IsStepError (is_text (tree_at self.old))) }
+        ensures errors { FailsOn (tree_at self.old) result }
     {
         let node = self.take();
         let Some(text) = borrowed_text(self.reader, node) else {
@@ -133,7 +133,7 @@ impl<'t, 'qs> Format for TreeFormat<'t, 'qs> {
     #[tactic(auto, using(crate::proofs::Errors::step_errors, crate::proofs::Borrowed::bytes_read))]
     fn plain_bytes(&mut self, input: &[u8]) -> Result<(usize, usize)>
         ensures step { IfOk result (λ r. Reads self.old (octets (slice_range input.now r.0 r.1)) self.new) }
-        ensures errors { IfErr result (IsStepError (is_text (tree_at self.old))) }
+        ensures errors { FailsOn (tree_at self.old) result }
     {
         let node = self.take();
         let Some(text) = borrowed_text(self.reader, node) else {
@@ -145,14 +145,14 @@ impl<'t, 'qs> Format for TreeFormat<'t, 'qs> {
 
     fn string(&mut self, _alloc: Global, _input: &[u8]) -> Result<String>
         ensures step { IfOk result (λ v. Reads self.old (text (string_bytes v)) self.new) }
-        ensures errors { IfErr result (IsStepError (is_text (tree_at self.old))) }
+        ensures errors { FailsOn (tree_at self.old) result }
     {
         self.text()
     }
 
     fn byte_buf(&mut self, _alloc: Global, _input: &[u8]) -> Result<Vec<u8>>
         ensures step { IfOk result (λ v. Reads self.old (octets v.items) self.new) }
-        ensures errors { IfErr result (IsStepError (is_text (tree_at self.old))) }
+        ensures errors { FailsOn (tree_at self.old) result }
     {
         match self.by_shape(&Shape::Bytes)? {
             Data::Bytes(bytes) => Ok(bytes),
@@ -269,7 +269,7 @@ impl<'t, 'qs> Format for TreeFormat<'t, 'qs> {
     #[inline(always)]
     fn next_key(&mut self, _input: &[u8], names: &[Name<'_>]) -> Result<Option<usize>>
         ensures step { IfOk result (λ o. MatchOption o (Reads self.old map_ends self.new) (λ at. Picks self.old true names.now at self.new)) }
-        ensures errors { IfErr result (IsStepError (is_text (tree_of self.old.top.now))) }
+        ensures errors { FailsOn (tree_of self.old.top.now) result }
     {
         if let Some(frame) = self.frame {
             if let FrameKind::Fields = frame.kind {
@@ -301,7 +301,7 @@ impl<'t, 'qs> Format for TreeFormat<'t, 'qs> {
 
     fn variant(&mut self, _input: &[u8], names: &[Name<'_>]) -> Result<usize>
         ensures step { IfOk result (λ at. Picks self.old false names.now at self.new) }
-        ensures errors { IfErr result (IsStepError (is_text (tree_at self.old))) }
+        ensures errors { FailsOn (tree_at self.old) result }
     {
         let is_key = self.part == Part::Key;
         let node = self.take();
@@ -322,29 +322,32 @@ impl<'t, 'qs> Format for TreeFormat<'t, 'qs> {
         Ok(())
     }
 
-    fn mark(&mut self) -> Mark
+    fn mark(&mut self) -> Mark<'t, 'qs>
         ensures mark { IsMark result self.old }
         ensures kept { self.new ≡ self.old }
     {
         Mark {
             depth: self.around.len(),
             frame: self.frame,
+            top: self.top,
+            node: self.node,
             part: self.part,
         }
     }
 
     #[tactic(auto, using(crate::proofs::Places::comes_back))]
-    fn rewind(&mut self, mark: Mark)
-        ensures { ComesBack mark self.old self.new }
+    fn rewind(&mut self, mark: Mark<'t, 'qs>)
+        ensures { ComesBack mark.entry self.old self.new }
     {
         self.around.truncate(mark.depth);
         self.frame = mark.frame;
-        self.find_place();
+        self.top = mark.top;
+        self.node = mark.node;
         self.part = mark.part;
         self.asked = Asked::Tried;
     }
 
-    fn release(&mut self, _mark: Mark) {}
+    fn release(&mut self, _mark: Mark<'t, 'qs>) {}
 
     fn is_fatal(&self, error: &ReadError) -> bool {
         matches!(error, ReadError::OutOfMemory)

@@ -1,6 +1,6 @@
 //! Why an event isn't written.
 
-ghost use Rattle.qs_serde.specs.Halts.{IsHaltError};
+ghost use Rattle.qs_serde.specs.Halts.{IsHaltError, IsHaltSaying};
 ghost use Rattle.qs_serde.specs.Placed.{IsMemory};
 
 use qs_data::Stop;
@@ -16,10 +16,8 @@ use std::alloc::{AllocError, AllocFailed, Global};
 /// ```
 #[derive(Drop)]
 pub enum Halt {
-    /// The type's own code rejects the value, with this message.
-    Custom(String),
-    /// The event isn't allowed here, for this reason.
-    Misplaced(&'static str),
+    /// The type's own code rejects the value, or the event isn't allowed here, with this message.
+    Custom(Box<String>),
     /// The writer stopped, or an allocation failed.
     Stopped(Stop),
     /// There was an error before.
@@ -27,21 +25,35 @@ pub enum Halt {
 }
 
 impl Halt {
+    /// Returns the error with this message.
+    #[cold]
+    #[inline(never)]
+    pub(crate) fn custom(alloc: Global, message: &str) -> Halt
+        ensures { IsHaltSaying message.now result }
+    {
+        let Ok(text) = String::from_str(alloc, message) else {
+            return Halt::Stopped(Stop::OutOfMemory);
+        };
+        match Box::new(alloc, text) {
+            Ok(text) => Halt::Custom(text),
+            Err(_) => Halt::Stopped(Stop::OutOfMemory),
+        }
+    }
+
     /// Returns the error of a value that was written under this configuration: [`Custom`](Error::Custom),
     /// [`MaxSerializationDepthExceeded`](Error::MaxSerializationDepthExceeded), [`Unsupported`](Error::Unsupported),
-    /// [`Failed`](Error::Failed) or [`OutOfMemory`](Error::OutOfMemory). It allocates only for the message of a misplaced event.
+    /// [`Failed`](Error::Failed) or [`OutOfMemory`](Error::OutOfMemory). It doesn't allocate.
     ///
     /// ```
-    /// Err(halt) => Err(halt.into_error(alloc, config)),
+    /// Err(halt) => Err(halt.into_error(config)),
     /// ```
     #[cold]
     #[inline(never)]
-    pub fn into_error(self, alloc: Global, config: Config) -> Error
+    pub fn into_error(self, config: Config) -> Error
         ensures { IsHaltError config self result }
     {
         match self {
-            Halt::Custom(message) => Error::Custom(message),
-            Halt::Misplaced(message) => Error::custom(alloc, message, &()),
+            Halt::Custom(message) => Error::Custom(Box::into_inner(message)),
             Halt::Stopped(stop) => stop.into_error(config),
             Halt::Failed => Error::Failed,
         }

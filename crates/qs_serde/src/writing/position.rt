@@ -6,6 +6,7 @@ ghost use Rattle.qs_spec.specs.Entry.{one};
 ghost use Rattle.qs_data.specs.write.Parts.{WritesPart, state_of};
 ghost use Rattle.qs_data.specs.write.Scalars.{scalar_text};
 ghost use Rattle.qs_serde.specs.Sent.{State, start, ends, ends_as, puts, put_value, opened, closes, goes_under, under_index, goes_to_value, goes_on, text_sent, nothing_sent, seq_sent, map_sent, seq_ended, map_ended, key_sent, key_ended_at};
+ghost use Rattle.qs_serde.specs.Halts.{IsHaltSaying};
 ghost use Rattle.qs_serde.specs.Placed.{Stands, Goes, Moves};
 ghost use Rattle.qs_serde.specs.declared.writing.frame.Next.TheVariants.{Value, Key, Flattened};
 
@@ -67,11 +68,20 @@ impl Position {
     #[inline(never)]
     fn misplaced(&self) -> Halt {
         match self.next {
-            Next::Value => Halt::Misplaced("a key ended that didn't begin"),
+            Next::Value => self.rejected("a key ended that didn't begin"),
             Next::Key => Halt::Stopped(Stop::BadKey),
-            Next::Flattened => Halt::Misplaced("only a map or a struct can be flattened"),
+            Next::Flattened => self.rejected("only a map or a struct can be flattened"),
             Next::Nothing => Halt::Failed,
         }
+    }
+
+    // Returns the error of an event that isn't allowed, with this message.
+    #[cold]
+    #[inline(never)]
+    fn rejected(&self, message: &str) -> Halt
+        ensures { IsHaltSaying message.now result }
+    {
+        Halt::custom(self.writer.alloc, message)
     }
 
     // Extends the path by a segment, for a part of what is open.
@@ -80,7 +90,7 @@ impl Position {
         ensures { Goes (λ config s. goes_under config (scalar_text segment.entry) s) result self.old self.new }
     {
         if self.frame.part.is_some() {
-            return Err(Halt::Misplaced("a key came in the place of a value"));
+            return Err(self.rejected("a key came in the place of a value"));
         }
         match self.writer.enter(segment) {
             Ok(len) => {
@@ -115,7 +125,7 @@ impl Position {
                 if self.frame.part.is_some() {
                     Ok(())
                 } else {
-                    Err(Halt::Misplaced("a value came in the place of a key"))
+                    Err(self.rejected("a value came in the place of a key"))
                 }
             }
         }
@@ -193,10 +203,10 @@ impl Position {
         ensures frame { IfOk result (λ frame. frame ≡ self.old.frame) }
     {
         if self.frame.part.is_some() {
-            return Err(Halt::Misplaced("a map ended after a key"));
+            return Err(self.rejected("a map ended after a key"));
         }
         let Some(frame) = self.around.pop() else {
-            return Err(Halt::Misplaced("a list or a map ended that didn't begin"));
+            return Err(self.rejected("a list or a map ended that didn't begin"));
         };
         let closed = self.frame;
         self.frame = frame;

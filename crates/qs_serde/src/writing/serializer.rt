@@ -5,7 +5,7 @@ use super::log::Note;
 use super::logging::{float, keep, key, printed, variant};
 use super::text::{Settings, TextSerializer};
 use itoa::Buffer;
-use qs_data::{Scalar, Stop};
+use qs_data::Scalar;
 use serde::{Case, NameKind, Serializer};
 use std::fmt::Display;
 
@@ -162,10 +162,7 @@ impl<K: Settings> Serializer for TextSerializer<K> {
     }
 
     fn custom(&self, message: &str) -> Halt {
-        match String::from_str(self.position.writer.alloc, message) {
-            Ok(message) => Halt::Custom(message),
-            Err(_) => Halt::Stopped(Stop::OutOfMemory),
-        }
+        Halt::custom(self.position.writer.alloc, message)
     }
 
     fn collect_str<T: Display>(&mut self, value: &T) -> Result<(), Halt> {

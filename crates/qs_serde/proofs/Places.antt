@@ -96,6 +96,9 @@ leads_on : (outers : List Outer) (top : Bor ParsedValue) (frame : Option Frame) 
 leads_on outers top None t u h is = subst (λ os. Lead os t u) (sym (append-nil outers)) (subst (λ v. Lead outers t v) (sym is) h)
 leads_on outers top (Some frame) t u h is = leads_in outers (record { frame = frame; top = top }) t u h is
 
+lead_alike : (root : Tree) (os ps : List Outer) (top tip : Bor ParsedValue) → ps ≡ os → tip ≡ top → Lead os root (tree_of top.now) → Lead ps root (tree_of tip.now)
+lead_alike root os ps top tip outers same h = subst (λ xs. Lead xs root (tree_of tip.now)) (sym outers) (subst (λ (v : Bor ParsedValue). Lead os root (tree_of v.now)) (sym same) h)
+
 -- a list or a map was begun
 pub begun : (old new : TreeFormat) (kind : FrameKind) → new.frame ≡ Some (record { kind = kind; next = 0; field = 0 }) → new.around.items ≡ opens old → new.top ≡ old.node → new.node ≡ old.node
     → new.part ≡ old.part → new.reader ≡ old.reader → new.search ≡ old.search → Begins old kind new
@@ -109,10 +112,11 @@ begun old new kind frame around top node part reader search = record {
 } where
   place : IsAt old → IsAt new
   place h = (
-    (h.0.0, subst (λ os. Lead os h.0.0 (tree_of new.top.now)) (sym around) (subst (λ (v : Bor ParsedValue). Lead (opens old) h.0.0 (tree_of v.now)) (sym top) (leads_on old.around.items old.top old.frame h.0.0 (tree_of old.node.now) h.0.1 h.1))),
+    (h.0.0, lead_alike h.0.0 (opens old) new.around.items old.node new.top around top (leads_on old.around.items old.top old.frame h.0.0 (tree_of old.node.now) h.0.1 h.1)),
     ap (λ (v : Bor ParsedValue). tree_of v.now) (node ∙ sym top) ∙ ap (λ o. last_part (tree_of new.top.now) (passed o)) (sym frame),
   )
 
+-- at least one is open
 some_open : (outers : List Outer) (outer : Outer) → 0 < length (outers ++ outer ∷ [])
 some_open [] outer = omega arith
 some_open (o ∷ outers) outer = omega arith
@@ -128,7 +132,7 @@ left old new outer around frame top node reader search = (
 ) where
   place : IsAt old → IsAt new
   place h = let out = leads_out new.around.items outer h.0.0 (tree_of old.top.now) (subst (λ os. Lead os h.0.0 (tree_of old.top.now)) around h.0.1) in (
-    (h.0.0, subst (λ (v : Bor ParsedValue). Lead new.around.items h.0.0 (tree_of v.now)) (sym top) out.0),
+    (h.0.0, lead_alike h.0.0 new.around.items new.around.items outer.top new.top refl top out.0),
     ap (λ (v : Bor ParsedValue). tree_of v.now) node ∙ out.1 ∙ ap (λ (v : Bor ParsedValue). last_part (tree_of v.now) outer.frame.next) (sym top)
         ∙ ap (λ o. last_part (tree_of new.top.now) (passed o)) (sym frame),
   )
@@ -145,7 +149,7 @@ moved old new frame kind last around top reader search child = record {
 } where
   place : IsAt old → IsAt new
   place h = (
-    (h.0.0, subst (λ os. Lead os h.0.0 (tree_of new.top.now)) (sym around) (subst (λ (v : Bor ParsedValue). Lead old.around.items h.0.0 (tree_of v.now)) (sym top) h.0.1)),
+    (h.0.0, lead_alike h.0.0 old.around.items new.around.items old.top new.top around top h.0.1),
     sym child ∙ ap (λ (v : Bor ParsedValue). child_at (tree_of v.now) frame.next) (sym top) ∙ ap (λ o. last_part (tree_of new.top.now) (passed o)) (sym last),
   )
 
@@ -153,34 +157,34 @@ moved old new frame kind last around top reader search child = record {
 pub comes_back : (mark : Mark) (old new : TreeFormat) → new.around.items ≡ take mark.depth old.around.items → new.frame ≡ mark.frame → new.top ≡ mark.top → new.node ≡ mark.node
     → new.part ≡ mark.part → new.reader ≡ old.reader → ComesBack mark old new
 comes_back mark old new around frame top node part reader marked is above = record {
-  frame = same;
-  around = outer;
-  top = whole;
-  node = here;
+  frame = same_frame;
+  around = same_around;
+  top = same_top;
+  node = same_node;
   part = part ∙ is.4;
   reader = reader ∙ above.1;
   next =
       ap (λ (q : Part). part_tree q (tree_of new.node.now) (tree_of new.top.now) (count_of new - 1)) (part ∙ is.4)
-      ∙ ap (λ (v : Bor ParsedValue). part_tree marked.part (tree_of v.now) (tree_of new.top.now) (count_of new - 1)) here
-      ∙ ap (λ (v : Bor ParsedValue). part_tree marked.part (tree_of marked.node.now) (tree_of v.now) (count_of new - 1)) whole
-      ∙ ap (λ o. part_tree marked.part (tree_of marked.node.now) (tree_of marked.top.now) (passed o - 1)) same;
+      ∙ ap (λ (v : Bor ParsedValue). part_tree marked.part (tree_of v.now) (tree_of new.top.now) (count_of new - 1)) same_node
+      ∙ ap (λ (v : Bor ParsedValue). part_tree marked.part (tree_of marked.node.now) (tree_of v.now) (count_of new - 1)) same_top
+      ∙ ap (λ o. part_tree marked.part (tree_of marked.node.now) (tree_of marked.top.now) (passed o - 1)) same_frame;
   place = place;
 } where
-  same : new.frame ≡ marked.frame
-  same = frame ∙ is.1
+  same_frame : new.frame ≡ marked.frame
+  same_frame = frame ∙ is.1
 
-  outer : new.around.items ≡ marked.around.items
-  outer = around ∙ ap (λ n. take n old.around.items) is.0 ∙ above.0
+  same_around : new.around.items ≡ marked.around.items
+  same_around = around ∙ ap (λ n. take n old.around.items) is.0 ∙ above.0
 
-  whole : new.top ≡ marked.top
-  whole = top ∙ is.2
+  same_top : new.top ≡ marked.top
+  same_top = top ∙ is.2
 
-  here : new.node ≡ marked.node
-  here = node ∙ is.3
+  same_node : new.node ≡ marked.node
+  same_node = node ∙ is.3
 
   place : IsAt marked → IsAt new
   place h = (
-    (h.0.0, subst (λ os. Lead os h.0.0 (tree_of new.top.now)) (sym outer) (subst (λ (v : Bor ParsedValue). Lead marked.around.items h.0.0 (tree_of v.now)) (sym whole) h.0.1)),
-    ap (λ (v : Bor ParsedValue). tree_of v.now) here ∙ h.1 ∙ ap (λ (v : Bor ParsedValue). last_part (tree_of v.now) (count_of marked)) (sym whole)
-        ∙ ap (λ o. last_part (tree_of new.top.now) (passed o)) (sym same),
+    (h.0.0, lead_alike h.0.0 marked.around.items new.around.items marked.top new.top same_around same_top h.0.1),
+    ap (λ (v : Bor ParsedValue). tree_of v.now) same_node ∙ h.1 ∙ ap (λ (v : Bor ParsedValue). last_part (tree_of v.now) (count_of marked)) (sym same_top)
+        ∙ ap (λ o. last_part (tree_of new.top.now) (passed o)) (sym same_frame),
   )

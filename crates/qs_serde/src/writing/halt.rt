@@ -1,11 +1,11 @@
 //! Why an event isn't written.
 
-ghost use Rattle.qs_serde.specs.Halts.{IsHaltError, IsHaltSaying};
+ghost use Rattle.qs_serde.specs.Halts.{IsHaltError};
 ghost use Rattle.qs_serde.specs.Placed.{IsMemory};
 
 use qs_data::Stop;
 use qs_tree::{Config, Error};
-use std::alloc::{AllocError, AllocFailed, Global};
+use std::alloc::{AllocError, AllocFailed};
 
 /// Why an event isn't written.
 ///
@@ -25,21 +25,6 @@ pub enum Halt {
 }
 
 impl Halt {
-    /// Returns the error with this message.
-    #[cold]
-    #[inline(never)]
-    pub(crate) fn custom(alloc: Global, message: &str) -> Halt
-        ensures { IsHaltSaying message.now result }
-    {
-        let Ok(text) = String::from_str(alloc, message) else {
-            return Halt::Stopped(Stop::OutOfMemory);
-        };
-        match Box::new(alloc, text) {
-            Ok(text) => Halt::Custom(text),
-            Err(_) => Halt::Stopped(Stop::OutOfMemory),
-        }
-    }
-
     /// Returns the error of a value that was written under this configuration: [`Custom`](Error::Custom),
     /// [`MaxSerializationDepthExceeded`](Error::MaxSerializationDepthExceeded), [`Unsupported`](Error::Unsupported),
     /// [`Failed`](Error::Failed) or [`OutOfMemory`](Error::OutOfMemory). It doesn't allocate.

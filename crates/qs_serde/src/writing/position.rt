@@ -75,13 +75,19 @@ impl Position {
         }
     }
 
-    // Returns the error of an event that isn't allowed, with this message.
+    /// Returns the error with this message.
     #[cold]
     #[inline(never)]
-    fn rejected(&self, message: &str) -> Halt
+    pub(crate) fn rejected(&self, message: &str) -> Halt
         ensures { IsHaltSaying message.now result }
     {
-        Halt::custom(self.writer.alloc, message)
+        let Ok(text) = String::from_str(self.writer.alloc, message) else {
+            return Halt::Stopped(Stop::OutOfMemory);
+        };
+        match Box::new(self.writer.alloc, text) {
+            Ok(text) => Halt::Custom(text),
+            Err(_) => Halt::Stopped(Stop::OutOfMemory),
+        }
     }
 
     // Extends the path by a segment, for a part of what is open.

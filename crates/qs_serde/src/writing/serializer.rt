@@ -1,5 +1,7 @@
 //! The events that serde sends.
 
+ghost use Rattle.qs_serde.specs.Halts.{IsHaltSaying};
+
 use super::halt::Halt;
 use super::log::Note;
 use super::logging::{float, keep, key, printed, variant};
@@ -161,8 +163,10 @@ impl<K: Settings> Serializer for TextSerializer<K> {
         keep(&mut self.position, &mut self.log, made, &Note::Flatten)
     }
 
-    fn custom(&self, message: &str) -> Halt {
-        Halt::custom(self.position.writer.alloc, message)
+    fn custom(&self, message: &str) -> Halt
+        ensures { IsHaltSaying message.now result }
+    {
+        self.position.rejected(message)
     }
 
     fn collect_str<T: Display>(&mut self, value: &T) -> Result<(), Halt> {

@@ -9,4 +9,6 @@ mod configurations;
 #[cfg(test)]
 mod helpers;
 #[cfg(test)]
+mod misplaced;
+#[cfg(test)]
 mod numbers;

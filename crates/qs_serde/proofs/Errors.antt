@@ -8,6 +8,7 @@ use Rattle.qs_data.specs.declared.read.error.ReadError.TheVariants.{Custom, Utf8
 use Rattle.qs_data.specs.read.Errors.{IsCustomOrOutOfMemory, IsOfReading}
 use Rattle.qs_data.specs.read.Gives.{Rejects}
 use Rattle.qs_data.specs.read.internal.ReadError.{ReadIsCustom, ReadRejects}
+use Rattle.qs_data.proofs.lemmas.read.ReadErrors.{narrowed_gives, passed, passed_custom}
 use Rattle.qs_spec.specs.Config.{Config}
 use Rattle.qs_spec.specs.Tree.{Tree, IsTree}
 use Rattle.qs_serde.specs.Errors.{IsStepError}
@@ -73,6 +74,6 @@ of_tree config input tree (e.Utf8 c) is h = (tree, is)
 of_tree config input tree e.OutOfMemory is h = tt
 of_tree config input tree e is h = absurd h
 
-pub ruleset step_errors = (of_rejects, of_more, of_custom, of_reading, custom_is_read, saying_is_read, rejects_is_read)
+pub ruleset step_errors = (passed, passed_custom, narrowed_gives, of_rejects, of_more, of_custom, of_reading, custom_is_read, saying_is_read, rejects_is_read)
 
-pub ruleset begin_errors = (rejects_custom, rejects_further, rejects_memory, custom_is_read, rejects_is_read)
+pub ruleset begin_errors = (passed, passed_custom, narrowed_gives, rejects_custom, rejects_further, rejects_memory, custom_is_read, rejects_is_read)

@@ -54,7 +54,7 @@ fn no_text<R: Abort>(rt: &R, alloc: Global) -> (str::Utf8Error, String) {
 fn prints_of_reading<R: Abort>(rt: &R, alloc: Global, error: Error, wanted: &str)
     requires { IsOfReading error }
 {
-    prints(rt, alloc, Error::from(ReadError::of(error)), wanted);
+    prints(rt, alloc, Error::from(ReadError::of(alloc, error)), wanted);
 }
 
 #[test]

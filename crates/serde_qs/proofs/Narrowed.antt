@@ -11,9 +11,9 @@ use Rattle.qs_data.specs.declared.read.error.ReadError.{ReadError}
 use Rattle.qs_data.specs.read.Errors.{IsCustomOrOutOfMemory, IsOfReading, OnlyCustomUtf8OrOutOfMemory}
 use Rattle.qs_data.specs.read.Gives.{Gives, Rejects}
 use Rattle.qs_data.specs.read.TreeText.{is_text}
-use Rattle.qs_data.specs.read.Narrowed.{IsNarrowed, error_of}
+use Rattle.qs_data.specs.read.Narrowed.{IsNarrowed, IsPassedOn}
 use Rattle.qs_data.specs.read.internal.ReadError.{ReadGives, ReadRejects}
-use Rattle.qs_data.proofs.lemmas.read.ReadErrors.{gives_as}
+use Rattle.qs_data.proofs.lemmas.read.ReadErrors.{gives_as, narrowed_gives, passed}
 use Rattle.serde_qs.specs.internal.NodeParts.{value_found}
 use Rattle.serde_qs.proofs.NodeValues.{found_twice}
 
@@ -49,15 +49,6 @@ custom_of_reading e.Failed h = absurd h
 
 pub ruleset of_reading = (rejects_of_reading, gives_of_reading, custom_of_reading)
 
--- the same is known of a result with its error as reading passes it on
-
-pub narrowed_rejects : {Y : Type 0} (t : Bool) (y : ReadError) (x : Error) (r : Option Y) → error_of y ≡ x → Rejects t x r → ReadRejects t y r
-narrowed_rejects t y x r is h = subst (λ z. Rejects t z r) (sym is) h
-
-pub narrowed_gives : {X Y : Type 0} (view : X → Y) (t : Bool) (given : Result X Error) (y : Result X ReadError) (r : Option Y) → IsNarrowed given y → Gives view t given r → ReadGives view t y r
-narrowed_gives view t given (Ok x) r is h = subst (λ g. Gives view t g r) is h
-narrowed_gives view t given (Err x) r is h = subst (λ g. Gives view t g r) is h
-
 -- a field that was found never, once, and twice
 
 pub missing_given : {X Y : Type 0} (view : X → Y) (u : Bool) (given : Result X Error) (y : Result X ReadError) (m : Data → Option Y) (absent : Option Y) (r : Reader) (ts : List Tree)
@@ -71,5 +62,5 @@ found_given view u given y m absent r ts t is g h f =
     gives_as view (is_text t) u y (option_and_then m (r t)) (value_found m absent r ts) (narrowed_gives view (is_text t) given y (option_and_then m (r t)) is g) (sym (ap (value_found m absent r) h)) f
 
 pub several_exit : {Y : Type 0} (u : Bool) (y : ReadError) (x : Error) (m : Data → Option Y) (absent : Option Y) (r : Reader) (ts : List Tree) (s t : Tree) (more : List Tree)
-    → error_of y ≡ x → IsCustomOrOutOfMemory x → ts ≡ s ∷ t ∷ more → ReadRejects u y (value_found m absent r ts)
-several_exit u y x m absent r ts s t more is h two = narrowed_rejects u y x (value_found m absent r ts) is (found_twice u x m absent r ts s t more h two)
+    → IsPassedOn x y → IsCustomOrOutOfMemory x → ts ≡ s ∷ t ∷ more → ReadRejects u y (value_found m absent r ts)
+several_exit u y x m absent r ts s t more is h two = passed u x y (value_found m absent r ts) is (found_twice u x m absent r ts s t more h two)

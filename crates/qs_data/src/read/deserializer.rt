@@ -104,7 +104,7 @@ impl<'qs> Deserializer<'qs> {
     /// [`is_listed`](Data::is_listed) holds, they may be in any order that keeps entries with the same path in order. A map has its pairs
     /// in the order of its keys.
     ///
-    /// Memory is allocated for what the data keeps, for a struct with capacity for each field of its shape, and for an error's message. A
+    /// Memory is allocated for what the data keeps, for a struct with capacity for each field of its shape, and for an error. A
     /// unit, a boolean, a number or a character is read without an allocation. The time grows with the tree and the data: a field is found
     /// by at most two look-ups.
     ///

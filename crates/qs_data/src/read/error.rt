@@ -3,7 +3,8 @@
 ghost use Rattle.std.specs.Prelude.{◌≡◌};
 ghost use Rattle.qs_tree.specs.Error.{IsCustomSaying};
 ghost use Rattle.qs_data.specs.read.Errors.{IsOfReading, OnlyCustomUtf8OrOutOfMemory};
-ghost use Rattle.qs_data.specs.read.Narrowed.{IsNarrowed, error_of};
+ghost use Rattle.qs_data.specs.read.Narrowed.{IsNarrowed, IsPassedOn, error_of};
+ghost use Rattle.qs_tree.specs.declared.error.Error.TheVariants as e;
 ghost use Rattle.qs_data.specs.declared.read.error.ReadError.TheVariants.{OutOfMemory};
 
 use qs_tree::Error;
@@ -14,7 +15,7 @@ use std::str::Utf8Error;
 /// The result of a function that reads: a value, or why there is none.
 pub(crate) type Result<T, E = ReadError> = std::result::Result<T, E>;
 
-/// The errors of reading. Each level of a tree passes them on, so they take a third of the space of an [`Error`].
+/// The errors of reading. Each level of a tree passes them on, so they are small: a box holds what they say.
 ///
 /// ```
 /// Err(error) => Err(Error::from(error)), // the public error
@@ -22,46 +23,74 @@ pub(crate) type Result<T, E = ReadError> = std::result::Result<T, E>;
 #[derive(Drop)]
 pub enum ReadError {
     /// The tree doesn't fit what is read from it; the message says why.
-    Custom(String),
+    Custom(Box<String>),
     /// Bytes that are read as text aren't UTF-8.
-    Utf8(Utf8Error),
+    Utf8(Box<Utf8Error>),
     /// An allocation failed.
     OutOfMemory,
 }
 
 impl ReadError {
-    /// Converts an error of reading to the type that reading passes on: the same kind, with the same contents. It
-    /// doesn't allocate.
+    /// Converts an error of reading to the type that reading passes on: the same kind, with the same contents, or
+    /// [`OutOfMemory`](ReadError::OutOfMemory) if its box can't be allocated.
     ///
     /// ```
-    /// Found::Several => Err(ReadError::of(reader.duplicate_field("1"))),
+    /// Found::Several => Err(ReadError::of(alloc, reader.duplicate_field("1"))),
     /// ```
     #[inline(always)]
-    pub fn of(error: Error) -> ReadError
+    pub fn of(alloc: Global, error: Error) -> ReadError
         requires { IsOfReading error }
-        ensures { error_of result ≡ error }
+        ensures { IsPassedOn error result }
     {
         match error {
-            Error::Custom(message) => ReadError::Custom(message),
-            Error::Utf8(cause) => ReadError::Utf8(cause),
+            Error::Custom(message) => ReadError::custom(alloc, message),
+            Error::Utf8(cause) => ReadError::utf8(alloc, cause),
             Error::OutOfMemory => ReadError::OutOfMemory,
             _ => unreachable!(),
         }
     }
 
-    /// Converts the error of a result, as [`of`](ReadError::of) does. It doesn't allocate.
+    /// Converts the error of a result, as [`of`](ReadError::of) does. It allocates only for an error.
     ///
     /// ```
-    /// Found::One(node) => ReadError::of_result(T::from_node(reader, node)),
+    /// Found::One(node) => ReadError::of_result(alloc, T::from_node(reader, node)),
     /// ```
     #[inline(always)]
-    pub fn of_result<T>(given: Result<T, Error>) -> Result<T>
+    pub fn of_result<T>(alloc: Global, given: Result<T, Error>) -> Result<T>
         requires { OnlyCustomUtf8OrOutOfMemory given }
         ensures { IsNarrowed given result }
     {
         match given {
             Ok(value) => Ok(value),
-            Err(error) => Err(ReadError::of(error)),
+            Err(error) => Err(ReadError::of(alloc, error)),
+        }
+    }
+
+    /// Returns the error of bytes that aren't UTF-8, or `OutOfMemory` if its box can't be allocated.
+    ///
+    /// ```
+    /// Err(cause) => Err(ReadError::utf8(alloc, cause)),
+    /// ```
+    #[cold]
+    #[inline(never)]
+    pub fn utf8(alloc: Global, cause: Utf8Error) -> ReadError
+        ensures { IsPassedOn (e.Utf8 cause) result }
+    {
+        match Box::new(alloc, cause) {
+            Ok(cause) => ReadError::Utf8(cause),
+            Err(_) => ReadError::OutOfMemory,
+        }
+    }
+
+    // Returns the error with this message, or that its box can't be allocated.
+    #[cold]
+    #[inline(never)]
+    fn custom(alloc: Global, message: String) -> ReadError
+        ensures { IsPassedOn (e.Custom message) result }
+    {
+        match Box::new(alloc, message) {
+            Ok(message) => ReadError::Custom(message),
+            Err(_) => ReadError::OutOfMemory,
         }
     }
 
@@ -70,7 +99,7 @@ impl ReadError {
         ensures { IsCustomSaying (error_of result) (T.output message) }
     {
         match String::format(alloc, message) {
-            Ok(message) => ReadError::Custom(message),
+            Ok(message) => ReadError::custom(alloc, message),
             Err(_) => ReadError::OutOfMemory,
         }
     }
@@ -81,8 +110,8 @@ impl From<ReadError> for Error {
 
     fn from(cause: ReadError) -> Error {
         match cause {
-            ReadError::Custom(message) => Error::Custom(message),
-            ReadError::Utf8(cause) => Error::Utf8(cause),
+            ReadError::Custom(message) => Error::Custom(Box::into_inner(message)),
+            ReadError::Utf8(cause) => Error::Utf8(Box::into_inner(cause)),
             ReadError::OutOfMemory => Error::OutOfMemory,
         }
     }

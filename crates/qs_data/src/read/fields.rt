@@ -47,7 +47,7 @@ pub(crate) fn read_struct(
         ParsedValue::Map(map) => read_entries(reader, unknown, fields, NodeEntries::Map(map)),
         ParsedValue::Sequence(items) => read_places(reader, fields, items),
         ParsedValue::String(text) => {
-            as_text(text.as_slice())?;
+            as_text(reader.alloc, text.as_slice())?;
             Err(Message::mismatch(reader.alloc, value, Expected::Struct))
         }
         ParsedValue::Uninitialized => Err(Message::mismatch(reader.alloc, value, Expected::Struct)),

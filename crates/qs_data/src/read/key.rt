@@ -54,7 +54,7 @@ pub(crate) fn key_string(alloc: Global, key: &Key<'_>) -> Result<String>
         }
         Key::String(text) => {
             let bytes = text.as_slice();
-            match as_text(bytes) {
+            match as_text(alloc, bytes) {
                 Ok(text) => Ok(String::from_str(alloc, text)?),
                 Err(error) => Err(key_error(alloc, bytes, error)),
             }
@@ -92,5 +92,5 @@ fn name_data(alloc: Global, names: &Vec<String>, bytes: &[u8]) -> Result<Data>
             return Ok(Data::UnitVariant(name.clone()?));
         }
     }
-    Err(Message::UnknownVariant(as_text(bytes)?).error(alloc))
+    Err(Message::UnknownVariant(as_text(alloc, bytes)?).error(alloc))
 }

@@ -5,7 +5,8 @@ ghost use Rattle.std.specs.Str.{is_utf8};
 ghost use Rattle.qs_spec.specs.Segment.{segment_text};
 ghost use Rattle.qs_spec.specs.Node.{keys_are_text};
 ghost use Rattle.qs_tree.specs.tree.Views.{entries_of_map, segment_of_key};
-ghost use Rattle.qs_data.specs.declared.read.error.ReadError.TheVariants.{Utf8};
+ghost use Rattle.qs_tree.specs.declared.error.Error.TheVariants.{Utf8};
+ghost use Rattle.qs_data.specs.read.Narrowed.{IsPassedOn};
 ghost use Rattle.qs_data.specs.read.internal.Hint.{IsKeyError};
 ghost use Rattle.qs_data.specs.read.Errors.{IsOfReading};
 ghost use Rattle.qs_data.specs.read.Keys.{NumbersFit, KeyFits, PassesTest, entries_view};
@@ -32,13 +33,13 @@ pub struct BrokenKey<'t> {
 impl BrokenKey<'_> {
     /// Returns the error of this key.
     pub(crate) fn error(self, alloc: Global) -> ReadError
-        ensures { IsKeyError self.entry.text.now (Utf8 self.entry.cause) result }
+        ensures { (broken : ReadError) × IsPassedOn (Utf8 self.entry.cause) broken × IsKeyError self.entry.text.now broken result }
     {
-        key_error(alloc, self.text, ReadError::Utf8(self.cause))
+        key_error(alloc, self.text, ReadError::utf8(alloc, self.cause))
     }
 
     /// Returns the error of this key: [`Utf8`](qs_tree::Error::Utf8), or [`Custom`](qs_tree::Error::Custom) with a hint if the key holds a
-    /// bracket. It allocates for the hint.
+    /// bracket. It allocates.
     ///
     /// ```
     /// if let Err(broken) = entries.test() {

@@ -59,7 +59,7 @@ pub(crate) struct PartialMap<'t, 'qs> {
     pairs: Vec<(Data, Data)>,
 }
 
-/// Reads a leaf, or begins a list or a map. It allocates only to copy a text and for an error's message.
+/// Reads a leaf, or begins a list or a map. It allocates only to copy a text and for an error.
 #[tactic(auto, unfolding(qs_spec::specs::internal::ReadFunction::any_data))]
 pub(crate) fn visit<'t, 'qs>(alloc: Global, value: &'t ParsedValue<'qs>) -> Result<Visited<'t, 'qs>>
     ensures { Visits result (tree_of value.now) }

@@ -26,7 +26,7 @@ use std::alloc::Global;
 ///
 /// The data is what docs/QUERYSTRINGS.md gives for the shape and the node; of several variants with the same name, the first counts. If
 /// it gives none, the error is [`Custom`](qs_tree::Error::Custom), or [`Utf8`](qs_tree::Error::Utf8) if a string that is read isn't
-/// UTF-8. It allocates for what the data keeps and for an error's message, and takes time like that call.
+/// UTF-8. It allocates for what the data keeps and for an error, and takes time like that call.
 ///
 /// ```
 /// let age = read_value(alloc, Config::new(), &Shape::U8, &ParsedValue::Null); // an error: u8 is expected

@@ -305,8 +305,8 @@ impl Reader {
         Error::from(Message::mismatch(self.alloc, node, Expected::Enum))
     }
 
-    /// Returns the error of a name that no variant has: [`Custom`](qs_tree::Error::Custom), for which it allocates, or
-    /// [`Utf8`](qs_tree::Error::Utf8) if the name isn't UTF-8.
+    /// Returns the error of a name that no variant has: [`Custom`](qs_tree::Error::Custom), or [`Utf8`](qs_tree::Error::Utf8) if the name
+    /// isn't UTF-8. It allocates.
     ///
     /// ```
     /// _ => Err(reader.unknown_variant(b"Price")), // unknown variant `Price`
@@ -338,8 +338,8 @@ impl Reader {
         Error::from(Message::InvalidType { found, expected }.error(self.alloc))
     }
 
-    /// Returns the error of a node that holds no struct: [`Custom`](qs_tree::Error::Custom), for which it allocates, or
-    /// [`Utf8`](qs_tree::Error::Utf8) if the node is a string that isn't UTF-8.
+    /// Returns the error of a node that holds no struct: [`Custom`](qs_tree::Error::Custom), or [`Utf8`](qs_tree::Error::Utf8) if the node
+    /// is a string that isn't UTF-8. It allocates.
     ///
     /// ```
     /// ParsedValue::String(_) => Err(reader.not_a_struct(node)),
@@ -356,7 +356,7 @@ fn struct_error(alloc: Global, node: &ParsedValue<'_>) -> ReadError
     ensures { ReadRejects {Y = Unit {0}} (is_text (tree_of node.now)) result None }
 {
     if let ParsedValue::String(text) = node {
-        if let Err(error) = as_text(text.as_slice()) {
+        if let Err(error) = as_text(alloc, text.as_slice()) {
             return error;
         }
     }
@@ -367,7 +367,7 @@ fn struct_error(alloc: Global, node: &ParsedValue<'_>) -> ReadError
 fn variant_error(alloc: Global, name: &[u8]) -> ReadError
     ensures { ReadRejects {Y = Unit {0}} (is_utf8 name.now) result None }
 {
-    match as_text(name) {
+    match as_text(alloc, name) {
         Ok(name) => Message::UnknownVariant(name).error(alloc),
         Err(error) => error,
     }

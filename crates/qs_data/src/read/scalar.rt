@@ -31,7 +31,7 @@ pub(crate) fn read_unit(alloc: Global, value: &ParsedValue<'_>) -> Result<Data>
     match value {
         ParsedValue::NoValue | ParsedValue::Null => Ok(Data::Unit),
         ParsedValue::String(text) => {
-            as_text(text.as_slice())?;
+            as_text(alloc, text.as_slice())?;
             Err(Message::mismatch(alloc, value, Expected::Unit))
         }
         _ => Err(Message::mismatch(alloc, value, Expected::Unit)),
@@ -168,13 +168,13 @@ fn item_text<'t>(alloc: Global, value: &'t ParsedValue<'_>, expected: Expected) 
 /// Returns bytes as text, if they are UTF-8.
 #[inline(always)]
 #[tactic(auto, using(crate::proofs::lemmas::read::Errors::utf8_tests))]
-pub(crate) fn as_text(bytes: &[u8]) -> Result<&str>
+pub(crate) fn as_text(alloc: Global, bytes: &[u8]) -> Result<&str>
     ensures gives { ReadGives (λ s. s.now) (is_utf8 bytes.now) result (utf8_text bytes.now) }
     ensures frugal { ReadIsFrugal result (utf8_text bytes.now) }
 {
     match str::from_utf8(bytes) {
         Ok(text) => Ok(text),
-        Err(cause) => Err(ReadError::Utf8(cause)),
+        Err(cause) => Err(ReadError::utf8(alloc, cause)),
     }
 }
 
@@ -184,7 +184,7 @@ pub(crate) fn bool_data(alloc: Global, bytes: &[u8]) -> Result<Data>
     ensures gives { ReadGives data_of (is_utf8 bytes.now) result (boolean_data bytes.now) }
     ensures frugal { ReadIsFrugal result (boolean_data bytes.now) }
 {
-    match as_text(bytes)?.parse::<bool>() {
+    match as_text(alloc, bytes)?.parse::<bool>() {
         Ok(value) => Ok(Data::Bool(value)),
         Err(_) => Err(Message::unreadable(alloc, Expected::Bool)),
     }
@@ -197,7 +197,7 @@ pub(crate) fn unsigned_data(alloc: Global, width: Width, bytes: &[u8]) -> Result
     ensures gives { ReadGives data_of (is_utf8 bytes.now) result (unsigned_data (bits_of width) bytes.now) }
     ensures frugal { ReadIsFrugal result (unsigned_data (bits_of width) bytes.now) }
 {
-    match unsigned(width, as_text(bytes)?) {
+    match unsigned(width, as_text(alloc, bytes)?) {
         Some(number) => Ok(Data::Unsigned(number)),
         None => Err(Message::unreadable(alloc, Expected::Unsigned(width))),
     }
@@ -210,7 +210,7 @@ pub(crate) fn signed_data(alloc: Global, width: Width, bytes: &[u8]) -> Result<D
     ensures gives { ReadGives data_of (is_utf8 bytes.now) result (signed_data (bits_of width) bytes.now) }
     ensures frugal { ReadIsFrugal result (signed_data (bits_of width) bytes.now) }
 {
-    match signed(width, as_text(bytes)?) {
+    match signed(width, as_text(alloc, bytes)?) {
         Some(number) => Ok(Data::Signed(number)),
         None => Err(Message::unreadable(alloc, Expected::Signed(width))),
     }
@@ -222,7 +222,7 @@ pub(crate) fn char_data(alloc: Global, bytes: &[u8]) -> Result<Data>
     ensures gives { ReadGives data_of (is_utf8 bytes.now) result (character_data bytes.now) }
     ensures frugal { ReadIsFrugal result (character_data bytes.now) }
 {
-    match as_text(bytes)?.parse::<char>() {
+    match as_text(alloc, bytes)?.parse::<char>() {
         Ok(character) => Ok(Data::Char(character)),
         Err(_) => Err(Message::unreadable(alloc, Expected::Char)),
     }
@@ -233,7 +233,7 @@ pub(crate) fn char_data(alloc: Global, bytes: &[u8]) -> Result<Data>
 pub(crate) fn text_data(alloc: Global, bytes: &[u8]) -> Result<Data>
     ensures { ReadGives data_of (is_utf8 bytes.now) result (text_data bytes.now) }
 {
-    let text = as_text(bytes)?;
+    let text = as_text(alloc, bytes)?;
     Ok(Data::Text(String::from_str(alloc, text)?))
 }
 

@@ -147,7 +147,7 @@ fn test_name<N: FieldNames>(alloc: Global, names: &N, name: &[u8]) -> Result<()>
 fn unknown_key(alloc: Global, key: &[u8]) -> ReadError
     ensures { ReadRejects {Y = Unit {0}} (is_utf8 key.now) result None }
 {
-    let error = match as_text(key) {
+    let error = match as_text(alloc, key) {
         Ok(text) => Message::UnknownField(text).error(alloc),
         Err(error) => error,
     };

@@ -109,7 +109,7 @@ fn place_of(alloc: Global, variants: &[Variant], name: &[u8]) -> Result<usize>
             return Ok(i);
         }
     }
-    Err(Message::UnknownVariant(as_text(name)?).error(alloc))
+    Err(Message::UnknownVariant(as_text(alloc, name)?).error(alloc))
 }
 
 // Reads what a variant holds, from the value under its name.

@@ -94,15 +94,12 @@ fn finished(config: Config, made: Result<(), Halt>) -> Result<()>
     }
 }
 
-// Returns visible bytes as a string. They are UTF-8. It doesn't allocate.
+// Returns visible bytes as a string, since they are ASCII. It doesn't allocate.
 fn string_of(text: Vec<u8>) -> String
     requires { ∥ All IsVisible text.items ∥₁ }
     ensures { string_bytes result ≡ text.items }
 {
-    match String::from_utf8(text) {
-        Ok(string) => string,
-        Err(_) => unreachable!(),
-    }
+    unsafe { String::from_utf8_unchecked(text) }
 }
 
 /// Writes the querystring of a value under a configuration. Errors, what was written before them, allocations and time are as for

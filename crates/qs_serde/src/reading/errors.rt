@@ -6,6 +6,8 @@ ghost use Rattle.std.specs.Prelude.{Bool};
 ghost use Rattle.std.specs.Str.{is_utf8};
 ghost use Rattle.qs_tree.specs.tree.Views.{tree_of};
 ghost use Rattle.qs_data.specs.read.internal.ReadError.{ReadIsCustom};
+ghost use Rattle.qs_data.specs.read.Errors.{IsOfReading};
+ghost use Rattle.qs_data.specs.read.Narrowed.{IsPassedOn};
 ghost use Rattle.qs_data.specs.read.TreeText.{is_text};
 ghost use Rattle.qs_serde.specs.Errors.{IsStepError};
 ghost use Rattle.qs_serde.specs.Nodes.{node_tree};
@@ -57,7 +59,7 @@ impl<'t, 'qs> TreeFormat<'t, 'qs> {
             Asked::Unit | Asked::Key => self.misfit(self.part, &Shape::Unit),
             Asked::Unsigned(part) => self.misfit(part, &unsigned_shape(self.search.width)),
             Asked::Signed(part) => self.misfit(part, &signed_shape(self.search.width)),
-            Asked::Enum => Some(ReadError::of(self.reader.not_an_enum(self.node))),
+            Asked::Enum => Some(self.error(self.reader.not_an_enum(self.node))),
             Asked::Variant => Some(self.saying(
                 "invalid type: unit variant, expected a variant that holds a value",
             )),
@@ -84,11 +86,19 @@ impl<'t, 'qs> TreeFormat<'t, 'qs> {
         self.read_key(self.part(part), shape).err()
     }
 
+    /// Converts an error, as [`ReadError::of`] does.
+    pub(crate) fn error(&self, error: Error) -> ReadError
+        requires { IsOfReading error }
+        ensures { IsPassedOn error result }
+    {
+        ReadError::of(self.reader.alloc, error)
+    }
+
     /// Returns the error with this message.
     pub(crate) fn saying<T: Display + Drop>(&self, message: T) -> ReadError
         ensures { ReadIsCustom result }
     {
-        ReadError::of(Error::custom(self.reader.alloc, message, &()))
+        self.error(Error::custom(self.reader.alloc, message, &()))
     }
 
     /// Returns the error of a node that names no variant.
@@ -100,7 +110,7 @@ impl<'t, 'qs> TreeFormat<'t, 'qs> {
         match node {
             Node::Value(ParsedValue::String(text)) => self.unnamed_variant(text.as_slice()),
             Node::Value(ParsedValue::Null) => self.unnamed_variant(&[]),
-            Node::Value(value) => ReadError::of(self.reader.not_an_enum(value)),
+            Node::Value(value) => self.error(self.reader.not_an_enum(value)),
             Node::Key(Key::String(text)) => self.unnamed_variant(text.as_slice()),
             Node::Key(Key::Int(number)) => {
                 let mut buffer = Buffer::new();
@@ -114,7 +124,7 @@ impl<'t, 'qs> TreeFormat<'t, 'qs> {
     fn unnamed_variant(&self, name: &[u8]) -> ReadError
         ensures { IsStepError (is_utf8 name.now) result }
     {
-        ReadError::of(self.reader.unknown_variant(name))
+        self.error(self.reader.unknown_variant(name))
     }
 
     /// Returns the error of a key of this map that isn't UTF-8.
@@ -125,7 +135,7 @@ impl<'t, 'qs> TreeFormat<'t, 'qs> {
     {
         match entries_in(map).test() {
             Ok(()) => self.no_value(),
-            Err(key) => ReadError::of(key.into_error(self.reader.alloc)),
+            Err(key) => self.error(key.into_error(self.reader.alloc)),
         }
     }
 
@@ -141,7 +151,7 @@ impl<'t, 'qs> TreeFormat<'t, 'qs> {
             )),
             Node::Key(Key::String(text)) => match str::from_utf8(text.as_slice()) {
                 Ok(name) => self.unknown_field(name),
-                Err(cause) => ReadError::Utf8(cause),
+                Err(cause) => ReadError::utf8(self.reader.alloc, cause),
             },
             _ => self.unknown_field(""),
         };

@@ -240,8 +240,8 @@ impl<'t, 'qs> TreeFormat<'t, 'qs> {
             ParsedValue::NoValue | ParsedValue::Null | ParsedValue::Map(_) => Ok(FrameKind::Fields),
             ParsedValue::Sequence(_) => Ok(FrameKind::Places),
             ParsedValue::String(_) if self.part == Part::Held => Ok(FrameKind::Fields),
-            ParsedValue::String(_) => Err(ReadError::of(self.reader.not_a_struct(node))),
-            ParsedValue::Uninitialized => Err(ReadError::of(self.reader.nothing())),
+            ParsedValue::String(_) => Err(self.error(self.reader.not_a_struct(node))),
+            ParsedValue::Uninitialized => Err(self.error(self.reader.nothing())),
         }
     }
 }

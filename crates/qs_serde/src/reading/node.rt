@@ -59,17 +59,15 @@ impl<'t, 'qs> Node<'t, 'qs> {
         ensures { ReadGives data_of (is_text (node_tree self.entry)) result (reads reader.reject_duplicates (shape_of shape.now) (node_tree self.entry)) }
     {
         match self {
-            Node::Value(value) => ReadError::of_result(reader.read(shape, value)),
-            Node::NoValue => ReadError::of_result(reader.read(shape, &ParsedValue::NoValue)),
-            Node::EmptyKey => ReadError::of_result(reader.read(shape, &text_node(&[]))),
+            Node::Value(value) => read_value(reader, shape, value),
+            Node::NoValue => read_value(reader, shape, &ParsedValue::NoValue),
+            Node::EmptyKey => read_value(reader, shape, &text_node(&[])),
             Node::Key(Key::Int(number)) => {
                 let mut buffer = Buffer::new();
                 let digits = buffer.format(*number).as_bytes();
-                ReadError::of_result(reader.read(shape, &text_node(digits)))
+                read_value(reader, shape, &text_node(digits))
             }
-            Node::Key(Key::String(text)) => {
-                ReadError::of_result(reader.read(shape, &text_node(text.as_slice())))
-            }
+            Node::Key(Key::String(text)) => read_value(reader, shape, &text_node(text.as_slice())),
         }
     }
 
@@ -80,6 +78,13 @@ impl<'t, 'qs> Node<'t, 'qs> {
             _ => false,
         }
     }
+}
+
+// Reads a value by a shape.
+fn read_value(reader: Reader, shape: &Shape, value: &ParsedValue<'_>) -> Result<Data>
+    ensures { ReadGives data_of (is_text (tree_of value.now)) result (reads reader.reject_duplicates (shape_of shape.now) (tree_of value.now)) }
+{
+    ReadError::of_result(reader.alloc, reader.read(shape, value))
 }
 
 /// Returns the item at an index of a node, if there is one. It is an error if a map has another key there.
@@ -94,7 +99,7 @@ pub(crate) fn item_at<'t, 'qs>(
 {
     let items = items_in(value);
     if at < items.len() {
-        ReadError::of_result(items.get(reader, at))
+        ReadError::of_result(reader.alloc, items.get(reader, at))
     } else {
         Ok(None)
     }

@@ -23,6 +23,7 @@ use super::{ReadError, Result};
 use memchr::memmem;
 use qs_data::{Data, Reader, Shape};
 use qs_tree::{Key, ParsedValue};
+use std::alloc::Global;
 use std::borrow::CowSlice;
 use std::str;
 
@@ -151,12 +152,12 @@ fn borrowed_item<'t>(item: &'t ParsedValue<'_>) -> Option<&'t [u8]>
 
 /// Tests whether a text is UTF-8.
 #[tactic(auto, using(qs_data::proofs::lemmas::read::Errors::utf8_tests))]
-pub(crate) fn test_utf8(text: &[u8]) -> Result<()>
+pub(crate) fn test_utf8(alloc: Global, text: &[u8]) -> Result<()>
     ensures text { OnOk result (is_utf8 text.now ≡ true) }
     ensures errors { IfErr result (IsStepError (is_utf8 text.now)) }
 {
     match str::from_utf8(text) {
         Ok(_) => Ok(()),
-        Err(cause) => Err(ReadError::Utf8(cause)),
+        Err(cause) => Err(ReadError::utf8(alloc, cause)),
     }
 }

@@ -39,7 +39,10 @@ impl<'t, 'qs> Format for TreeFormat<'t, 'qs> {
         ensures errors { FailsOn (tree_at self.old) result }
     {
         let read = match self.take() {
-            Node::Value(value) => ReadError::of_result(self.reader.boolean(value)),
+            Node::Value(value) => ReadError::of_result(
+                self.reader.alloc,
+                self.reader.boolean(value),
+            ),
             node => self.read_key(node, &Shape::Bool),
         };
         match read? {
@@ -125,7 +128,7 @@ impl<'t, 'qs> Format for TreeFormat<'t, 'qs> {
         let Some(text) = borrowed_text(self.reader, node) else {
             return Err(self.not_borrowed(node));
         };
-        test_utf8(text)?;
+        test_utf8(self.reader.alloc, text)?;
         let place = self.place(text, input)?;
         Ok(place)
     }
@@ -168,7 +171,7 @@ impl<'t, 'qs> Format for TreeFormat<'t, 'qs> {
             Part::Key => Ok(Kind::Str),
             Part::NoValue => Ok(Kind::Unit),
             Part::Value | Part::Held => match self.node {
-                ParsedValue::Uninitialized => Err(ReadError::of(self.reader.nothing())),
+                ParsedValue::Uninitialized => Err(self.error(self.reader.nothing())),
                 ParsedValue::Null | ParsedValue::NoValue => Ok(Kind::Unit),
                 ParsedValue::String(_) => Ok(Kind::Str),
                 ParsedValue::Sequence(_) => Ok(Kind::Seq),
@@ -206,7 +209,7 @@ impl<'t, 'qs> Format for TreeFormat<'t, 'qs> {
                     self.part = Part::NoValue;
                     Ok(false)
                 }
-                ParsedValue::Uninitialized => Err(ReadError::of(self.reader.nothing())),
+                ParsedValue::Uninitialized => Err(self.error(self.reader.nothing())),
                 _ => Ok(false),
             },
         }
@@ -218,7 +221,7 @@ impl<'t, 'qs> Format for TreeFormat<'t, 'qs> {
         ensures errors { IfErr result (λ e. ReadRejects true e (next_items self.old)) }
     {
         let node = self.next_node()?;
-        ReadError::of_result(self.reader.items(node))?;
+        ReadError::of_result(self.reader.alloc, self.reader.items(node))?;
         self.open(FrameKind::Items)
     }
 
@@ -249,7 +252,7 @@ impl<'t, 'qs> Format for TreeFormat<'t, 'qs> {
         ensures errors { IfErr result (λ e. ReadRejects true e (next_entries self.old)) }
     {
         let node = self.next_node()?;
-        ReadError::of_result(self.reader.entries(node))?;
+        ReadError::of_result(self.reader.alloc, self.reader.entries(node))?;
         self.open(FrameKind::Map)
     }
 
@@ -356,14 +359,14 @@ impl<'t, 'qs> Format for TreeFormat<'t, 'qs> {
     // A sequence that is read as a struct lacks an item rather than a name.
     fn missing(&self, name: &str) -> ReadError {
         if self.lacks_items {
-            ReadError::of(self.reader.missing_item(self.count))
+            self.error(self.reader.missing_item(self.count))
         } else {
-            ReadError::of(self.reader.missing_field(name))
+            self.error(self.reader.missing_field(name))
         }
     }
 
     fn duplicate(&self, name: &str) -> ReadError {
-        ReadError::of(self.reader.duplicate_field(name))
+        self.error(self.reader.duplicate_field(name))
     }
 
     fn unknown_key(&self) -> ReadError {
@@ -380,7 +383,7 @@ impl<'t, 'qs> Format for TreeFormat<'t, 'qs> {
     }
 
     fn wrong_len(&self) -> ReadError {
-        ReadError::of(self.reader.missing_item(self.count))
+        self.error(self.reader.missing_item(self.count))
     }
 
     fn invalid(&self) -> ReadError {

@@ -24,7 +24,7 @@ use std::marker::PhantomData;
 
 /// Returns the fields that a node holds: by their names among keys, and by their indices among items. A key that no field has is
 /// ignored or rejected.
-#[tactic(auto, using(crate::proofs::Narrowed::of_reading, crate::proofs::Narrowed::narrowed_gives, crate::proofs::Narrowed::narrowed_rejects), unfolding(qs_spec::specs::internal::ReadFunction::struct_members))]
+#[tactic(auto, using(crate::proofs::Narrowed::of_reading, qs_data::proofs::lemmas::read::ReadErrors::passed_on), unfolding(qs_spec::specs::internal::ReadFunction::struct_members))]
 #[inline(always)]
 pub(crate) fn fields_of_struct<F: Fields>(
     reader: Reader,
@@ -40,10 +40,11 @@ pub(crate) fn fields_of_struct<F: Fields>(
         ParsedValue::NoValue | ParsedValue::Null => NodeEntries::Empty,
         ParsedValue::Map(map) => NodeEntries::Map(map),
         ParsedValue::Sequence(items) => {
-            return ReadError::of_result(F::from_places(reader, names, items, items.len()));
+            let fields = F::from_places(reader, names, items, items.len());
+            return ReadError::of_result(reader.alloc, fields);
         }
         ParsedValue::String(_) | ParsedValue::Uninitialized => {
-            return Err(ReadError::of(reader.not_a_struct(node)));
+            return Err(ReadError::of(reader.alloc, reader.not_a_struct(node)));
         }
     };
     read_entries(reader, unknown, names, entries)
@@ -80,18 +81,18 @@ fn read_entries<F: Fields>(
         (names_read (unknown_of unknown) reader.reject_duplicates (F.table.shape (texts names.now)) (F.table.meaning (texts names.now)) (entries_view entries.entry)) }
 {
     let are_text = entries.keys_are_text();
-    let fields = ReadError::of_result(F::from_entries(reader, names, entries))?;
+    let fields = ReadError::of_result(reader.alloc, F::from_entries(reader, names, entries))?;
     let known = NamesOf::<F> {
         names,
         fields: PhantomData,
     };
-    ReadError::of_result(unknown.reject(reader, &known, entries))?;
+    ReadError::of_result(reader.alloc, unknown.reject(reader, &known, entries))?;
     if are_text {
         return Ok(fields);
     }
     match entries.test() {
         Ok(()) => Ok(fields),
-        Err(key) => Err(ReadError::of(key.into_error(reader.alloc))),
+        Err(key) => Err(ReadError::of(reader.alloc, key.into_error(reader.alloc))),
     }
 }
 
@@ -122,9 +123,9 @@ pub(crate) fn by_name<F: FieldType>(
         (value_found F.table.meaning (keyless F.table.meaning (missing_data F.table.shape) F.table.missing) (reads reader.reject_duplicates F.table.shape) (found name.now (entries_view entries.entry))) }
 {
     match entries.find(name) {
-        Found::Missing => ReadError::of_result(F::without_key(reader, name)),
-        Found::One(node) => ReadError::of_result(F::of_node(reader, node)),
-        Found::Several => Err(ReadError::of(reader.duplicate_field(name))),
+        Found::Missing => ReadError::of_result(reader.alloc, F::without_key(reader, name)),
+        Found::One(node) => ReadError::of_result(reader.alloc, F::of_node(reader, node)),
+        Found::Several => Err(ReadError::of(reader.alloc, reader.duplicate_field(name))),
     }
 }
 

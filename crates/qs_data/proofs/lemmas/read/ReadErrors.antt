@@ -1,7 +1,9 @@
 -- An error of a part as the error of the whole, inside reading.
-use Rattle.qs_data.proofs.Common.{◌≡◌, ℕ, List, Bool, false, Option, None, ◌∙◌, sym, Result, Ok, Err, subst, inl, inr, ◌==◌, list_any, IsErrAnd, cases_Bool, MatchBool-at_true, MatchBool-at_false, ReadError, ReadGives, ReadRejects, ReadIsCustom, ReadRunsOutOnlyToReject, ReadIsFrugal, error_of}
+use Rattle.qs_data.proofs.Common.{◌≡◌, ℕ, List, Bool, false, Option, None, ◌∙◌, sym, Result, Ok, Err, subst, inl, inr, ◌==◌, list_any, IsErrAnd, cases_Bool, MatchBool-at_true, MatchBool-at_false, ReadError, ReadGives, ReadRejects, ReadIsCustom, ReadRunsOutOnlyToReject, ReadIsFrugal, error_of, Gives, Rejects, Error}
 use Rattle.qs_tree.specs.Error.{IsCustomSaying}
 use Rattle.qs_data.specs.declared.read.error.ReadError.TheVariants.{Custom, Utf8, OutOfMemory}
+use Rattle.qs_data.specs.read.Errors.{IsCustomOrOutOfMemory}
+use Rattle.qs_data.specs.read.Narrowed.{IsNarrowed, IsPassedOn}
 use Rattle.qs_data.specs.read.internal.Hint.{IsKeyError, IsHinted, hinted_text}
 
 -- what is rejected of a part is rejected of the whole
@@ -39,6 +41,23 @@ pub custom : {Y : Type 0} (t : Bool) (e : ReadError) (r : Option Y) → ReadIsCu
 custom t (Custom m) r h n = n
 custom t (Utf8 c) r h n = absurd h
 custom t OutOfMemory r h n = tt
+
+-- an error that was passed on rejects what it rejected
+pub passed : {Y : Type 0} (t : Bool) (x : Error) (e : ReadError) (r : Option Y) → IsPassedOn x e → Rejects t x r → ReadRejects t e r
+passed t x e r (inl same) h = subst (λ z. Rejects t z r) (sym same) h
+passed t x e r (inr memory) h = subst (λ z. ReadRejects t z r) (sym memory) tt
+
+pub passed_custom : (x : Error) (e : ReadError) → IsPassedOn x e → IsCustomOrOutOfMemory x → ReadIsCustom e
+passed_custom x e (inl same) h = subst IsCustomOrOutOfMemory (sym same) h
+passed_custom x e (inr memory) h = subst ReadIsCustom (sym memory) tt
+
+-- what is known of a result is known of it with the error passed on
+pub narrowed_gives : {X Y : Type 0} (view : X → Y) (t : Bool) (given : Result X Error) (x : Result X ReadError) (r : Option Y) → IsNarrowed given x → Gives view t given r → ReadGives view t x r
+narrowed_gives view t given (Ok x) r is h = subst (λ g. Gives view t g r) is h
+narrowed_gives view t (Ok g) (Err e) r is h = absurd is
+narrowed_gives view t (Err g) (Err e) r is h = passed t g e r is h
+
+pub ruleset passed_on = (passed, passed_custom, narrowed_gives)
 
 -- an error with a message is `Custom`, or an allocation failed
 says : (e : ReadError) (text : Option (List ℕ)) → IsCustomSaying (error_of e) text → ReadIsCustom e

@@ -8,8 +8,8 @@ use Rattle.qs_data.proofs.lemmas.data.Levels.{data_of_struct, data_of_struct_var
 use Rattle.qs_data.proofs.lemmas.read.Entries.{after_some, keys_bad, untested}
 use Rattle.qs_data.proofs.lemmas.read.Variants.{named_is, enum_none, enum_some, text_as_map, under_bad}
 use Rattle.qs_data.proofs.lemmas.read.Errors.{and_left}
-use Rattle.qs_data.proofs.lemmas.read.ReadErrors.{gives_exit, gives_as, custom, key_error}
-use Rattle.qs_data.specs.declared.read.error.ReadError.TheVariants.{Utf8}
+use Rattle.qs_data.proofs.lemmas.read.ReadErrors.{gives_exit, gives_as, custom, key_error, passed}
+use Rattle.qs_tree.specs.declared.error.Error.TheVariants.{Utf8}
 use Rattle.qs_data.proofs.lemmas.read.Items.{items_bad, due_bad, each_more, each_unread, each_end, each_all}
 use Rattle.qs_data.proofs.lemmas.read.Tuples.{parts_more, parts_unread}
 use Rattle.qs_data.proofs.lemmas.read.Numbers.{empty_text}
@@ -26,7 +26,9 @@ fields::read_entries-returns-in-Err t c =
     let u = unknown_of c.args.unknown in
     let fs = fields_in c.args.fields.now.items in
     let none = untested (keys_are_allowed u fs es) (reads_names c.args.reader.reject_duplicates fs es) (and_left (keys_are_text es) (keys_are_names fs es || are_ignored u) bad) in
-    key_error (entries_are_text es) c.in-Err.key.text.now (Utf8 c.in-Err.key.cause) c.error.result _ c.error.ensures (none, keys_bad es bad)
+    let broken = c.error.ensures.0 in
+    key_error (entries_are_text es) c.in-Err.key.text.now broken c.error.result _ c.error.ensures.2
+    (passed (entries_are_text es) (Utf8 c.in-Err.key.cause) broken _ c.error.ensures.1 (none, keys_bad es bad))
 
 pub fields::read_field-returns-in_err-read_inline-in-One : goal.fields::read_field-returns-in_err-read_inline-in-One
 fields::read_field-returns-in_err-read_inline-in-One t c =

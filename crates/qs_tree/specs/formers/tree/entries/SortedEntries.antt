@@ -1,4 +1,4 @@
--- `Entries` as a type whose values may be of the type that holds it.
+-- Sorted entries whose values may be of the type that holds the entries.
 use Rattle.std.specs.Prelude.{List, [], ◌∷◌}
 use mathlib.Core.Path.{◌≡◌, refl, sym, ap, subst}
 use mathlib.Core.Former.{Former, this, const, pair, list, via, children}

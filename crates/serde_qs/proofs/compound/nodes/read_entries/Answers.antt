@@ -5,12 +5,11 @@ use Rattle.qs_data.specs.read.TreeText.{entries_are_text}
 use Rattle.qs_data.specs.read.Keys.{entries_view, unknown_of, when}
 use Rattle.qs_data.proofs.lemmas.read.Entries.{keys_bad}
 use Rattle.qs_data.proofs.lemmas.read.Errors.{and_right}
-use Rattle.qs_data.proofs.lemmas.read.ReadErrors.{gives_exit}
+use Rattle.qs_data.proofs.lemmas.read.ReadErrors.{gives_exit, narrowed_gives, passed}
 use Rattle.qs_data.proofs.lemmas.read.Unknown.{fails, passes}
 use Rattle.serde_qs.specs.Nodes.{by_names}
 use Rattle.serde_qs.specs.internal.NodeParts.{names_read}
 use Rattle.serde_qs.specs.Records.{texts}
-use Rattle.serde_qs.proofs.Narrowed.{narrowed_gives, narrowed_rejects}
 use Rattle.serde_qs.proofs.NodeValues.{names_broken, names_disallowed, names_ok, names_unread}
 use Rattle.serde_qs.proofs.compound.nodes.read_entries.Goals as goal
 
@@ -61,5 +60,5 @@ returns-in-Err g c =
     let reject_duplicates = c.args.reader.reject_duplicates in
     let fs = t.shape (texts c.args.names.now) in
     let m = t.meaning (texts c.args.names.now) in
-    narrowed_rejects (entries_are_text es) c.of.result c.into_error.result (names_read u reject_duplicates fs m es) c.of.ensures
+    passed (entries_are_text es) c.into_error.result c.of.result (names_read u reject_duplicates fs m es) c.of.ensures
     (names_broken u reject_duplicates fs m es c.into_error.result c.in-Err.ensures.text c.into_error.ensures)

@@ -1,9 +1,5 @@
 //! Escapes.
 
-ghost use Rattle.std.specs.Prelude.{◌≡◌, IsTrue, IsFalse};
-ghost use Rattle.qs_spec.specs.Escape.{decoded, encoded};
-ghost use Rattle.qs_bench.specs.Texts.{IsHandedOut};
-
 use crate::text::hand_out;
 use qs_tree::{decode, encode};
 use std::alloc::Global;
@@ -16,10 +12,7 @@ pub extern "C" fn qs_bench_decode(
     bytes: &[u8],
     out: &mut [u8],
     len: &mut usize,
-) -> bool
-    ensures decoded { IsTrue result → IsHandedOut (decoded bytes.now) out.old out.new len.new }
-    ensures unchanged { IsFalse result → (out.new ≡ out.old) × (len.new ≡ len.old) }
-{
+) -> bool {
     let Ok(text) = decode(alloc, bytes) else {
         return false;
     };
@@ -35,10 +28,7 @@ pub extern "C" fn qs_bench_encode(
     bytes: &[u8],
     out: &mut [u8],
     len: &mut usize,
-) -> bool
-    ensures encoded { IsTrue result → IsHandedOut (encoded form bytes.now) out.old out.new len.new }
-    ensures unchanged { IsFalse result → (out.new ≡ out.old) × (len.new ≡ len.old) }
-{
+) -> bool {
     let mut text = Vec::new(alloc);
     let Ok(()) = encode(bytes, form, &mut text) else {
         return false;

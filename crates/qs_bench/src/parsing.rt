@@ -1,11 +1,5 @@
 //! Parsing.
 
-ghost use Rattle.std.specs.Prelude.{◌≡◌, IsTrue, IsFalse};
-ghost use Rattle.qs_spec.specs.Config.{default};
-ghost use Rattle.qs_spec.specs.Tree.{Tree, IsTree};
-ghost use Rattle.qs_tree.specs.tree.Views.{tree_of};
-ghost use Rattle.qs_bench.specs.Keys.{root_keys, first_keys};
-
 use qs_tree::{Config, ParsedValue, parse};
 use std::alloc::Global;
 
@@ -21,11 +15,7 @@ pub struct Keys {
 
 /// Parses the input, counts keys, and drops the tree. Returns whether the input has a tree; if not, nothing is changed.
 #[unsafe(no_mangle)]
-pub extern "C" fn qs_bench_parse(alloc: Global, input: &[u8], keys: &mut Keys) -> bool
-    ensures counted { IsTrue result → (tree : Tree) × IsTree default.is_form default.max_depth input.now tree
-        × (keys.new.root ≡ root_keys tree) × (keys.new.first ≡ first_keys tree) }
-    ensures unchanged { IsFalse result → keys.new ≡ keys.old }
-{
+pub extern "C" fn qs_bench_parse(alloc: Global, input: &[u8], keys: &mut Keys) -> bool {
     let Ok(tree) = parse(alloc, input, Config::new()) else {
         return false;
     };
@@ -34,10 +24,7 @@ pub extern "C" fn qs_bench_parse(alloc: Global, input: &[u8], keys: &mut Keys) -
 }
 
 // Counts the keys at the root, and the keys below the first of them.
-fn count(tree: &ParsedValue<'_>) -> Keys
-    ensures root { result.root ≡ root_keys (tree_of tree.now) }
-    ensures first { result.first ≡ first_keys (tree_of tree.now) }
-{
+fn count(tree: &ParsedValue<'_>) -> Keys {
     match tree {
         ParsedValue::Map(map) => Keys {
             root: map.len(),
@@ -51,9 +38,7 @@ fn count(tree: &ParsedValue<'_>) -> Keys
 }
 
 // Returns how many keys a tree has at its root.
-fn len(tree: &ParsedValue<'_>) -> usize
-    ensures { result ≡ root_keys (tree_of tree.now) }
-{
+fn len(tree: &ParsedValue<'_>) -> usize {
     match tree {
         ParsedValue::Map(map) => map.len(),
         _ => 0,

@@ -1,10 +1,8 @@
 //! Reading.
 
-ghost use Rattle.std.specs.Prelude.{◌≡◌, true, IsTrue, IsFalse, IfOk, IfSome};
+ghost use Rattle.std.specs.Prelude.{◌≡◌, true};
 ghost use Rattle.qs_spec.specs.Shape.{is_distinct};
-ghost use Rattle.qs_data.specs.data.Views.{data_of};
 ghost use Rattle.qs_data.specs.shape.Views.{shape_of};
-ghost use Rattle.qs_bench.specs.Reads.{IsRead, IsReadBy};
 
 use crate::loads::numbered_load;
 use qs_data::{Data, Deserializer, Result, Shape};
@@ -19,10 +17,7 @@ pub extern "C" fn qs_bench_read(
     number: usize,
     input: &[u8],
     size: &mut usize,
-) -> bool
-    ensures read { IsTrue result → IsRead number input.now size.new }
-    ensures unchanged { IsFalse result → size.new ≡ size.old }
-{
+) -> bool {
     let Some(read) = last_size(alloc, times, number, input) else {
         return false;
     };
@@ -31,9 +26,7 @@ pub extern "C" fn qs_bench_read(
 }
 
 // Reads `times` times, at least once. Returns how much the last read returns.
-fn last_size(alloc: Global, times: usize, number: usize, input: &[u8]) -> Option<usize>
-    ensures { IfSome result (IsRead number input.now) }
-{
+fn last_size(alloc: Global, times: usize, number: usize, input: &[u8]) -> Option<usize> {
     let Ok(Some(load)) = numbered_load(alloc, number) else {
         return None;
     };
@@ -43,14 +36,12 @@ fn last_size(alloc: Global, times: usize, number: usize, input: &[u8]) -> Option
     let Ok(datum) = last_data(alloc, times, &load.shape, input) else {
         return None;
     };
-    let size = load.size_of(&datum)?;
-    Some(size)
+    load.size_of(&datum)
 }
 
 // Reads `times` times, at least once. Returns the data of the last read.
 fn last_data(alloc: Global, times: usize, shape: &Shape, input: &[u8]) -> Result<Data>
     requires { is_distinct (shape_of shape.now) ≡ true }
-    ensures { IfOk result (λ d. IsReadBy (shape_of shape.now) input.now (data_of d)) }
 {
     for _ in 1..times {
         read(alloc, shape, input)?;
@@ -61,7 +52,6 @@ fn last_data(alloc: Global, times: usize, shape: &Shape, input: &[u8]) -> Result
 // Returns the data that is read.
 fn read(alloc: Global, shape: &Shape, input: &[u8]) -> Result<Data>
     requires { is_distinct (shape_of shape.now) ≡ true }
-    ensures { IfOk result (λ d. IsReadBy (shape_of shape.now) input.now (data_of d)) }
 {
     Deserializer::new(alloc, input)?.read(alloc, shape)
 }

@@ -1,17 +1,9 @@
 //! Writing.
 
-ghost use Rattle.std.specs.Prelude.{◌≡◌, None, IsTrue, IsFalse, IfOk, IsErr, false};
-ghost use Rattle.qs_spec.specs.Config.{default};
-ghost use Rattle.qs_spec.specs.Data.Data.{bytes};
-ghost use Rattle.qs_spec.specs.Entry.{entries};
-ghost use Rattle.qs_data.specs.data.Views.{data_of};
-ghost use Rattle.qs_bench.specs.Samples as sample;
-ghost use Rattle.qs_bench.specs.Texts.{text_of, IsWritten};
-
 use crate::samples;
 use crate::text::hand_out;
 use qs_data::{Config, Data, Result, Serializer};
-use std::alloc::{AllocError, Global};
+use std::alloc::Global;
 
 /// Makes a record of ten entries, and writes it `times` times, at least once, each time to fresh memory. Returns whether all
 /// went well. If so, `len` is the text's length, and the text is at the front of `out`, if it fits there; else nothing is
@@ -22,10 +14,7 @@ pub extern "C" fn qs_bench_write_record(
     times: usize,
     out: &mut [u8],
     len: &mut usize,
-) -> bool
-    ensures written { IsTrue result → IsWritten sample.record_of_ten out.old out.new len.new }
-    ensures unchanged { IsFalse result → (out.new ≡ out.old) × (len.new ≡ len.old) }
-{
+) -> bool {
     write(alloc, times, samples::record(alloc), out, len)
 }
 
@@ -38,17 +27,9 @@ pub extern "C" fn qs_bench_write_fields(
     count: usize,
     out: &mut [u8],
     len: &mut usize,
-) -> bool
-    ensures written { IsTrue result → IsWritten (sample.below keys (sample.fields count)) out.old out.new len.new }
-    ensures unchanged { IsFalse result → (out.new ≡ out.old) × (len.new ≡ len.old) }
-{
-    write(
-        alloc,
-        times,
-        samples::fields_below(alloc, keys, count),
-        out,
-        len,
-    )
+) -> bool {
+    let datum = samples::fields_below(alloc, keys, count);
+    write(alloc, times, datum, out, len)
 }
 
 /// Does the same for a field with the list of the numbers below `count`.
@@ -59,10 +40,7 @@ pub extern "C" fn qs_bench_write_numbers(
     count: usize,
     out: &mut [u8],
     len: &mut usize,
-) -> bool
-    ensures written { IsTrue result → IsWritten (sample.only (sample.numbers count)) out.old out.new len.new }
-    ensures unchanged { IsFalse result → (out.new ≡ out.old) × (len.new ≡ len.old) }
-{
+) -> bool {
     write(alloc, times, samples::numbers(alloc, count), out, len)
 }
 
@@ -74,25 +52,18 @@ pub extern "C" fn qs_bench_write_bytes(
     content: &[u8],
     out: &mut [u8],
     len: &mut usize,
-) -> bool
-    ensures written { IsTrue result → IsWritten (sample.only (bytes content.now)) out.old out.new len.new }
-    ensures unchanged { IsFalse result → (out.new ≡ out.old) × (len.new ≡ len.old) }
-{
+) -> bool {
     write(alloc, times, samples::held(alloc, content), out, len)
 }
 
-// Writes the data `times` times, at least once, and hands out the last text.
+// Writes the data `times` times, at least once, and hands out the last text. Returns whether there are data, and were written.
 fn write(
     alloc: Global,
     times: usize,
-    datum: Result<Data, AllocError>,
+    datum: Result<Data>,
     out: &mut [u8],
     len: &mut usize,
-) -> bool
-    ensures written { IfOk datum (λ datum. IsTrue result → IsWritten (data_of datum) out.old out.new len.new) }
-    ensures unmade { IsErr datum → IsFalse result }
-    ensures unchanged { IsFalse result → (out.new ≡ out.old) × (len.new ≡ len.old) }
-{
+) -> bool {
     let Ok(datum) = datum else {
         return false;
     };
@@ -104,10 +75,7 @@ fn write(
 }
 
 // Writes the data `times` times, at least once. Returns the last text.
-fn last_text(alloc: Global, times: usize, datum: &Data) -> Result<Vec<u8>>
-    ensures whole { IfOk result (λ text. (entries default (data_of datum.now)).error ≡ None) }
-    ensures text { IfOk result (λ text. text.items ≡ text_of (data_of datum.now)) }
-{
+fn last_text(alloc: Global, times: usize, datum: &Data) -> Result<Vec<u8>> {
     for _ in 1..times {
         text_of(alloc, datum)?;
     }
@@ -115,10 +83,7 @@ fn last_text(alloc: Global, times: usize, datum: &Data) -> Result<Vec<u8>>
 }
 
 // Returns the text of the data, in a buffer with an initial capacity of 128 bytes.
-fn text_of(alloc: Global, datum: &Data) -> Result<Vec<u8>>
-    ensures whole { IfOk result (λ text. (entries default (data_of datum.now)).error ≡ None) }
-    ensures text { IfOk result (λ text. text.items ≡ text_of (data_of datum.now)) }
-{
+fn text_of(alloc: Global, datum: &Data) -> Result<Vec<u8>> {
     let text = Vec::with_capacity(alloc, 128)?;
     let mut serializer = Serializer::new(text, Config::new());
     serializer.serialize(alloc, datum)?;

@@ -6,7 +6,7 @@ ghost use Rattle.qs_c.specs.Status.{code_of, text_of, IsDone, IsOutOfMemory};
 use std::alloc::{AllocError, AllocFailed, Global};
 
 /// The kinds of errors, each a status of the header.
-#[derive(Clone, Copy, Debug, PartialEq, Eq)]
+#[derive(Clone, Copy)]
 pub(crate) enum FailureKind {
     /// An allocation failed.
     OutOfMemory,
@@ -58,7 +58,7 @@ impl FailureKind {
 }
 
 /// An error: its kind, text and position.
-#[derive(Debug, Drop)]
+#[derive(Drop)]
 pub(crate) struct Failure {
     pub(crate) kind: FailureKind,
     /// The text for a user; `None` if an allocation failed.

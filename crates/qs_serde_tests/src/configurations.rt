@@ -8,7 +8,7 @@ use serde::{Deserialize, Serialize};
 use std::alloc::Global;
 use std::process::Abort;
 
-#[derive(Debug, Drop, PartialEq, Serialize, Deserialize)]
+#[derive(Drop, Serialize, Deserialize)]
 struct Item {
     name: String,
     ids: Vec<u8>,
@@ -16,13 +16,14 @@ struct Item {
 
 const ITEM_TEXT: &str = "name=High+Street&ids[0]=7&ids[1]=8";
 
-// Claims that a value is written so under a configuration, and read back.
+// Claims that a value is written so under a configuration, and read back: it is then written as at first.
 fn is_written<R: Abort>(rt: &R, alloc: Global, config: Config, wanted: &str) {
     let item: Item = from_str(alloc, ITEM_TEXT).expect(rt, "an item");
     let text = to_string_with(alloc, config, &item).expect(rt, "its text");
     assert!(rt; text.as_str() == wanted, "{text}");
     let again: Item = from_str_with(alloc, config, text.as_str()).expect(rt, "the item");
-    assert!(rt; again == item, "{wanted}");
+    let again = to_string(alloc, &again).expect(rt, "its text");
+    assert!(rt; again.as_str() == ITEM_TEXT, "{wanted}: {again}");
 }
 
 #[test]
@@ -72,9 +73,9 @@ fn errors(rt: HostRuntime) {
 fn paths(rt: HostRuntime) {
     let alloc = rt.alloc();
     let read = explain_str::<Item>(alloc, Config::new(), "name=a&ids[0]=1&ids[1]=x");
-    let error = read.expect_err(&rt, "an error");
+    let error = read.err().expect(&rt, "an error");
     assert!(rt; error.path.as_str() == "ids[1]");
     assert!(rt; matches!(Error::from(error), Error::Custom(_)));
     let read = explain_bytes::<Item>(alloc, Config::new(), b"a[b");
-    assert!(rt; read.expect_err(&rt, "an error").path.is_empty());
+    assert!(rt; read.err().expect(&rt, "an error").path.is_empty());
 }

@@ -1,33 +1,31 @@
 //! Numbers of each width: the error names it.
 
 use crate::claims::each;
-use serde::{Deserialize, Serialize};
+use std::collections::BTreeMap;
 
-#[derive(Drop, Serialize, Deserialize)]
-struct Narrow {
-    a: u8,
-    b: u16,
-    c: u32,
-    d: u64,
-    e: i8,
-    f: i16,
-    g: i32,
-    h: i64,
-}
+type Unsigned = BTreeMap<String, (u8, u16, u32, u64)>;
 
-const NARROW_ROWS: &str = "\
-    a=255&b=65535&c=4294967295&d=18446744073709551615&e=-128&f=-32768&g=-2147483648&h=9223372036854775807 | a=255&b=65535&c=4294967295&d=18446744073709551615&e=-128&f=-32768&g=-2147483648&h=9223372036854775807
-    a=256&b=1&c=1&d=1&e=1&f=1&g=1&h=1 | ! a: invalid type: string, expected u8
-    a=1&b=65536&c=1&d=1&e=1&f=1&g=1&h=1 | ! b: invalid type: string, expected u16
-    a=1&b=1&c=4294967296&d=1&e=1&f=1&g=1&h=1 | ! c: invalid type: string, expected u32
-    a=1&b=1&c=1&d=18446744073709551616&e=1&f=1&g=1&h=1 | ! d: invalid type: string, expected u64
-    a=1&b=1&c=1&d=1&e=128&f=1&g=1&h=1 | ! e: invalid type: string, expected i8
-    a=1&b=1&c=1&d=1&e=1&f=-32769&g=1&h=1 | ! f: invalid type: string, expected i16
-    a=1&b=1&c=1&d=1&e=1&f=1&g=2147483648&h=1 | ! g: invalid type: string, expected i32
-    a=1&b=1&c=1&d=1&e=1&f=1&g=1&h=9223372036854775808 | ! h: invalid type: string, expected i64
+type Signed = BTreeMap<String, (i8, i16, i32, i64)>;
+
+const UNSIGNED_ROWS: &str = "\
+    v[0]=255&v[1]=65535&v[2]=4294967295&v[3]=18446744073709551615 | v[0]=255&v[1]=65535&v[2]=4294967295&v[3]=18446744073709551615
+    v[0]=256&v[1]=1&v[2]=1&v[3]=1 | ! v[0]: invalid type: string, expected u8
+    v[0]=1&v[1]=65536&v[2]=1&v[3]=1 | ! v[1]: invalid type: string, expected u16
+    v[0]=1&v[1]=1&v[2]=4294967296&v[3]=1 | ! v[2]: invalid type: string, expected u32
+    v[0]=1&v[1]=1&v[2]=1&v[3]=18446744073709551616 | ! v[3]: invalid type: string, expected u64
+";
+
+const SIGNED_ROWS: &str = "\
+    v[0]=-128&v[1]=-32768&v[2]=-2147483648&v[3]=-9223372036854775808 | v[0]=-128&v[1]=-32768&v[2]=-2147483648&v[3]=-9223372036854775808
+    v[0]=127&v[1]=32767&v[2]=2147483647&v[3]=9223372036854775807 | v[0]=127&v[1]=32767&v[2]=2147483647&v[3]=9223372036854775807
+    v[0]=128&v[1]=1&v[2]=1&v[3]=1 | ! v[0]: invalid type: string, expected i8
+    v[0]=1&v[1]=-32769&v[2]=1&v[3]=1 | ! v[1]: invalid type: string, expected i16
+    v[0]=1&v[1]=1&v[2]=2147483648&v[3]=1 | ! v[2]: invalid type: string, expected i32
+    v[0]=1&v[1]=1&v[2]=1&v[3]=9223372036854775808 | ! v[3]: invalid type: string, expected i64
 ";
 
 #[test]
-fn narrow_numbers(rt: HostRuntime) {
-    each::<_, Narrow>(&rt, rt.alloc(), NARROW_ROWS);
+fn numbers(rt: HostRuntime) {
+    each::<_, Unsigned>(&rt, rt.alloc(), UNSIGNED_ROWS);
+    each::<_, Signed>(&rt, rt.alloc(), SIGNED_ROWS);
 }

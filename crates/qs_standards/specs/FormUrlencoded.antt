@@ -1,4 +1,4 @@
--- The parser of `application/x-www-is_form-urlencoded`: URL Standard, section 5.1.
+-- The parser of `application/x-www-form-urlencoded`: URL Standard, section 5.1.
 -- Its UTF-8 decode without BOM (in step 3.5) is left out: names and values are bytes here.
 use Rattle.std.specs.Prelude.{ℕ, Bool, true, false, ◌==◌, List, [], ◌∷◌, map, filter, if◌then◌else◌}
 use Rattle.qs_standards.specs.PercentDecode.{percent_decoded}

@@ -14,8 +14,6 @@ mod program;
 mod showing;
 mod streams;
 mod strict;
-#[cfg(test)]
-mod tests;
 
 use crate::arguments::Request;
 use crate::information::Information;

@@ -3,11 +3,12 @@
 ghost use Rattle.qs_bench.specs.declared.types.nested.TheConstants.{A, B, C, D, E};
 ghost use Rattle.serde_qs.specs.PartTables.{made_of};
 
+use serde::{Deserialize, Serialize};
 use serde_qs::{Compound, Out, Parts, Result, Shape, Source, Struct, WriteResult};
 use std::alloc::Global;
 
 /// A text under `a`, `b`, `c`, `d` and `e`.
-#[derive(Drop)]
+#[derive(Drop, Serialize, Deserialize)]
 pub struct Nested {
     pub a: Second,
 }
@@ -32,7 +33,7 @@ impl Compound for Nested {
 }
 
 /// The value of `a`.
-#[derive(Drop)]
+#[derive(Drop, Serialize, Deserialize)]
 pub struct Second {
     pub b: Third,
 }
@@ -57,7 +58,7 @@ impl Compound for Second {
 }
 
 /// The value of `b`.
-#[derive(Drop)]
+#[derive(Drop, Serialize, Deserialize)]
 pub struct Third {
     pub c: Fourth,
 }
@@ -82,7 +83,7 @@ impl Compound for Third {
 }
 
 /// The value of `c`.
-#[derive(Drop)]
+#[derive(Drop, Serialize, Deserialize)]
 pub struct Fourth {
     pub d: Fifth,
 }
@@ -107,7 +108,7 @@ impl Compound for Fourth {
 }
 
 /// The value of `d`.
-#[derive(Drop)]
+#[derive(Drop, Serialize, Deserialize)]
 pub struct Fifth {
     pub e: String,
 }

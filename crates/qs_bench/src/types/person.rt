@@ -3,11 +3,12 @@
 ghost use Rattle.qs_bench.specs.declared.types.person.TheConstants.{IDS, PERSON};
 ghost use Rattle.serde_qs.specs.PartTables.{made_of};
 
+use serde::{Deserialize, Serialize};
 use serde_qs::{Compound, Out, Parts, Result, Shape, Source, Struct, WriteResult};
 use std::alloc::Global;
 
 /// Somebody: three fields.
-#[derive(Drop)]
+#[derive(Drop, Serialize, Deserialize)]
 pub struct Person {
     pub name: String,
     pub age: u8,
@@ -40,7 +41,7 @@ impl Compound for Person {
 }
 
 /// A list of numbers under one field.
-#[derive(Drop)]
+#[derive(Drop, Serialize, Deserialize)]
 pub struct Ids {
     pub ids: Vec<u64>,
 }

@@ -3,11 +3,12 @@
 ghost use Rattle.qs_bench.specs.declared.types.record.TheConstants.{ADDRESS, RECORD};
 ghost use Rattle.serde_qs.specs.PartTables.{made_of};
 
+use serde::{Deserialize, Serialize};
 use serde_qs::{Compound, Out, Parts, Result, Shape, Source, Struct, WriteResult};
 use std::alloc::Global;
 
 /// Somebody's address.
-#[derive(Drop)]
+#[derive(Drop, Serialize, Deserialize)]
 pub struct Address {
     pub city: String,
     pub street: String,
@@ -40,7 +41,7 @@ impl Compound for Address {
 }
 
 /// A record, which is written as ten entries if it has four ids.
-#[derive(Drop)]
+#[derive(Drop, Serialize, Deserialize)]
 pub struct Record {
     pub id: u64,
     pub name: String,

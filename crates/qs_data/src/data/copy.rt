@@ -16,7 +16,6 @@ impl Data {
     /// let copy = data.try_clone(alloc)?; // copy == data
     /// ```
     #[cycle(copy)]
-    #[tactic(auto, using(crate::proofs::lemmas::data::Levels::levels))]
     pub fn try_clone(&self, alloc: Global) -> Result<Data, AllocError>
         ensures { IfOk result (λ copy. data_of copy ≡ data_of self.now) }
     {

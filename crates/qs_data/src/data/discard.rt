@@ -30,7 +30,6 @@ impl Data {
     /// let data = deserializer.read(alloc, &Shape::Any)?;
     /// data.discard();
     /// ```
-    #[tactic(auto, using(std::proofs::lemmas::List::Sums::sum_by_push))]
     pub fn discard(self) {
         let Some((alloc, parts)) = self.into_parts() else {
             return;
@@ -57,7 +56,6 @@ impl Data {
     }
 
     // Returns the parts of the data, and their allocator; None for a leaf, which is dropped.
-    #[tactic(auto, using(crate::proofs::lemmas::data::Weights::weights))]
     fn into_parts(self) -> Option<(Global, Parts)>
         ensures { MatchOption result (weight self ≡ 1) (λ p. parts_weight p.1 + 1 ≡ weight self) }
     {

@@ -38,7 +38,6 @@ impl Data {
 
 // Returns whether lists can be read back; `below` says whether they are under a key.
 #[cycle(listed)]
-#[tactic(auto, using(crate::proofs::lemmas::data::Levels::levels))]
 fn is_listed(datum: &Data, format: ArrayFormat, below: bool) -> bool
     ensures { result ≡ is_listed (array_format_of format) below (data_of datum.now) }
 {

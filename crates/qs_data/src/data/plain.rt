@@ -48,7 +48,6 @@ impl Data {
 
 // Returns whether data can be read back, with form encoding or without it.
 #[cycle(plain)]
-#[tactic(auto, using(crate::proofs::lemmas::data::Levels::levels))]
 fn is_plain(datum: &Data, is_form: bool) -> bool
     ensures { result ≡ is_plain is_form (data_of datum.now) }
 {
@@ -75,7 +74,6 @@ fn is_plain(datum: &Data, is_form: bool) -> bool
 
 // Returns whether the elements of a list can be read back, and there is an index for each.
 #[cycle(plain)]
-#[tactic(auto, using(crate::proofs::lemmas::data::Counts::count_is))]
 fn are_plain_items(items: &Vec<Data>, is_form: bool) -> bool
     ensures { let ds = values_in items.now.items in result ≡ (are_few ds && are_plain is_form ds) }
 {
@@ -110,7 +108,6 @@ fn are_plain_pairs(pairs: &Vec<(Data, Data)>, is_form: bool) -> bool
 
 // Returns whether a struct or a struct variant has fields, their names differ, and each can be read back.
 #[cycle(plain)]
-#[tactic(auto, using(crate::proofs::lemmas::data::Counts::some_members))]
 fn are_plain_fields(members: &Vec<(String, Data)>, is_form: bool) -> bool
     ensures { let ms = members_in members.now.items in
         result ≡ (has_members ms && member_names_differ ms && are_plain_members is_form ms) }
@@ -132,7 +129,6 @@ fn are_plain_members(members: &Vec<(String, Data)>, is_form: bool) -> bool
 }
 
 // Returns whether there is an item.
-#[tactic(auto, using(crate::proofs::lemmas::data::Counts::some_values))]
 fn has_values(items: &[Data]) -> bool
     ensures { result ≡ has_values (values_in items.now) }
 {

@@ -8,42 +8,87 @@ use crate::data::Data;
 
 /// Returns whether two values are of the same kind and hold the same.
 #[cycle(sameness)]
-#[tactic(auto, using(crate::proofs::lemmas::data::Levels::levels, crate::proofs::lemmas::data::Levels::data_of_map, crate::proofs::lemmas::data::Weights::weights))]
 pub(crate) fn same_data(left: &Data, right: &Data) -> bool
     ensures { result ≡ data_same (data_of left.now) (data_of right.now) }
 {
-    match (left, right) {
-        (Data::Unit, Data::Unit) => true,
-        (Data::None, Data::None) => true,
-        (Data::Some(left), Data::Some(right)) => same_data(left, right),
-        (Data::Bool(left), Data::Bool(right)) => left == right,
-        (Data::Unsigned(left), Data::Unsigned(right)) => left == right,
-        (Data::Signed(left), Data::Signed(right)) => left == right,
-        (Data::Char(left), Data::Char(right)) => left == right,
-        (Data::Text(left), Data::Text(right)) => left == right,
-        (Data::Bytes(left), Data::Bytes(right)) => left == right,
-        (Data::Seq(left), Data::Seq(right)) => same_items(left, right),
-        (Data::Tuple(left), Data::Tuple(right)) => same_items(left, right),
-        (Data::Map(left), Data::Map(right)) => same_pairs(left, right),
-        (Data::Struct(left), Data::Struct(right)) => same_members(left, right),
-        (Data::Newtype(left), Data::Newtype(right)) => same_data(left, right),
-        (Data::UnitVariant(left), Data::UnitVariant(right)) => left == right,
-        (Data::NewtypeVariant(name, left), Data::NewtypeVariant(other, right)) => {
-            name == other && same_data(left, right)
-        }
-        (Data::TupleVariant(name, left), Data::TupleVariant(other, right)) => {
-            name == other && same_items(left, right)
-        }
-        (Data::StructVariant(name, left), Data::StructVariant(other, right)) => {
-            name == other && same_members(left, right)
-        }
-        _ => false,
+    match left {
+        Data::Unit => match right {
+            Data::Unit => true,
+            _ => false,
+        },
+        Data::None => match right {
+            Data::None => true,
+            _ => false,
+        },
+        Data::Some(left) => match right {
+            Data::Some(right) => same_data(left, right),
+            _ => false,
+        },
+        Data::Bool(left) => match right {
+            Data::Bool(right) => left == right,
+            _ => false,
+        },
+        Data::Unsigned(left) => match right {
+            Data::Unsigned(right) => left == right,
+            _ => false,
+        },
+        Data::Signed(left) => match right {
+            Data::Signed(right) => left == right,
+            _ => false,
+        },
+        Data::Char(left) => match right {
+            Data::Char(right) => left == right,
+            _ => false,
+        },
+        Data::Text(left) => match right {
+            Data::Text(right) => left == right,
+            _ => false,
+        },
+        Data::Bytes(left) => match right {
+            Data::Bytes(right) => left == right,
+            _ => false,
+        },
+        Data::Seq(left) => match right {
+            Data::Seq(right) => same_items(left, right),
+            _ => false,
+        },
+        Data::Tuple(left) => match right {
+            Data::Tuple(right) => same_items(left, right),
+            _ => false,
+        },
+        Data::Map(left) => match right {
+            Data::Map(right) => same_pairs(left, right),
+            _ => false,
+        },
+        Data::Struct(left) => match right {
+            Data::Struct(right) => same_members(left, right),
+            _ => false,
+        },
+        Data::Newtype(left) => match right {
+            Data::Newtype(right) => same_data(left, right),
+            _ => false,
+        },
+        Data::UnitVariant(left) => match right {
+            Data::UnitVariant(right) => left == right,
+            _ => false,
+        },
+        Data::NewtypeVariant(name, left) => match right {
+            Data::NewtypeVariant(other, right) => name == other && same_data(left, right),
+            _ => false,
+        },
+        Data::TupleVariant(name, left) => match right {
+            Data::TupleVariant(other, right) => name == other && same_items(left, right),
+            _ => false,
+        },
+        Data::StructVariant(name, left) => match right {
+            Data::StructVariant(other, right) => name == other && same_members(left, right),
+            _ => false,
+        },
     }
 }
 
 // Returns whether two lists have equal items in the same order.
 #[cycle(sameness)]
-#[tactic(auto, using(crate::proofs::lemmas::data::Lengths::other_items))]
 fn same_items(left: &[Data], right: &[Data]) -> bool
     ensures { result ≡ values_same (values_in left.now) (values_in right.now) }
 {
@@ -61,7 +106,6 @@ fn same_items(left: &[Data], right: &[Data]) -> bool
 
 // Returns whether two maps have equal pairs in the same order.
 #[cycle(sameness)]
-#[tactic(auto, using(crate::proofs::lemmas::data::Lengths::other_pairs))]
 fn same_pairs(left: &[(Data, Data)], right: &[(Data, Data)]) -> bool
     ensures { result ≡ pairs_same (pairs_in left.now) (pairs_in right.now) }
 {
@@ -79,7 +123,6 @@ fn same_pairs(left: &[(Data, Data)], right: &[(Data, Data)]) -> bool
 
 // Returns whether two structs have equal fields in the same order.
 #[cycle(sameness)]
-#[tactic(auto, using(crate::proofs::lemmas::data::Lengths::other_members))]
 fn same_members(left: &[(String, Data)], right: &[(String, Data)]) -> bool
     ensures { result ≡ members_same (members_in left.now) (members_in right.now) }
 {

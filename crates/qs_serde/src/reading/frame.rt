@@ -23,7 +23,7 @@ pub(crate) struct Outer<'t, 'qs> {
 }
 
 /// What is read from it.
-#[derive(Clone, Copy, PartialEq, Eq)]
+#[derive(Clone, Copy)]
 pub(crate) enum FrameKind {
     /// The items of a list or a tuple.
     Items,

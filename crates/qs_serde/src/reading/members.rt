@@ -51,7 +51,7 @@ impl<'t, 'qs> TreeFormat<'t, 'qs> {
         ensures { Leaves self.old self.new }
     {
         self.count = frame.next;
-        self.lacks_items = frame.kind == FrameKind::Places;
+        self.lacks_items = matches!(frame.kind, FrameKind::Places);
         self.close();
     }
 

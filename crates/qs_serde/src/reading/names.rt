@@ -52,7 +52,6 @@ fn find_value(names: &[Name<'_>], value: &ParsedValue<'_>) -> Option<usize>
 
 // Returns the index of the name that a text matches.
 #[inline(always)]
-#[tactic(auto, unfolding(crate::specs::Lookups::FindsText))]
 fn find_text(names: &[Name<'_>], text: &[u8]) -> Option<usize>
     ensures { IfSome result (λ at. FindsText names.now text.now at) }
 {

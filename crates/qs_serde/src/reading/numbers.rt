@@ -2,7 +2,7 @@
 
 #![tactic(auto, using(crate::proofs::Errors::step_errors))]
 
-ghost use Rattle.std.specs.Prelude.{◌≡◌, Bool, ◌⊎◌, ◌^◌, ◌≤◌, pos, negsuc, ◌<ℤ◌, IfOk, IfSome, OnOk, Some};
+ghost use Rattle.std.specs.Prelude.{◌≡◌, Bool, false, ◌⊎◌, ◌^◌, ◌≤◌, pos, negsuc, ◌<ℤ◌, IfOk, IfSome, OnOk, Some};
 ghost use Rattle.qs_spec.specs.Data as d;
 ghost use Rattle.qs_spec.specs.Shape as s;
 ghost use Rattle.qs_data.specs.read.Reads.{reads};
@@ -19,10 +19,15 @@ use qs_data::{Data, Shape, Width};
 use std::str;
 
 impl Search {
-    // Counts a number that is requested, and returns whether it is replaced by another.
+    // Counts a number that is requested, if fields are read in their own order, and returns whether it is replaced by another.
+    #[inline(always)]
     fn is_probed(&mut self) -> bool
-        ensures { self.new ≡ record self.old { numbers = self.new.numbers } }
+        ensures counts { self.new ≡ record self.old { numbers = self.new.numbers } }
+        ensures plain { self.old.in_order ≡ false → result ≡ false }
     {
+        if !self.in_order {
+            return false;
+        }
         self.numbers = self.numbers.saturating_add(1);
         self.numbers == self.probed
     }
@@ -58,7 +63,7 @@ impl<'t, 'qs> TreeFormat<'t, 'qs> {
         let asked = Asked::Signed(self.part);
         let node = self.take();
         self.asked = asked;
-        if self.search.in_order && self.search.is_probed() {
+        if self.search.is_probed() {
             return Ok(past_signed(self.search.width));
         }
         if let Some(number) = plain_signed(node) {
@@ -79,7 +84,7 @@ impl<'t, 'qs> TreeFormat<'t, 'qs> {
         let asked = Asked::Unsigned(self.part);
         let node = self.take();
         self.asked = asked;
-        if self.search.in_order && self.search.is_probed() {
+        if self.search.is_probed() {
             return Ok(past_unsigned(self.search.width));
         }
         if let Some(number) = plain_unsigned(node) {
@@ -135,7 +140,6 @@ impl<'t, 'qs> TreeFormat<'t, 'qs> {
 }
 
 // Returns the signed number that a plain text holds.
-#[tactic(auto, using(crate::proofs::Borrowed::signed_read, qs_data::proofs::lemmas::read::Numbers::signed_ok))]
 fn plain_signed(node: Node<'_, '_>) -> Option<i64>
     ensures { IfSome result (λ n. (reject_duplicates : Bool) → reads reject_duplicates (s.Shape.signed 64) (node_tree node.entry) ≡ Some (d.signed n)) }
 {
@@ -146,7 +150,6 @@ fn plain_signed(node: Node<'_, '_>) -> Option<i64>
 }
 
 // Returns the unsigned number that a plain text holds.
-#[tactic(auto, using(crate::proofs::Borrowed::unsigned_read, qs_data::proofs::lemmas::read::Numbers::unsigned_ok))]
 fn plain_unsigned(node: Node<'_, '_>) -> Option<u64>
     ensures { IfSome result (λ n. (reject_duplicates : Bool) → reads reject_duplicates (s.Shape.unsigned 64) (node_tree node.entry) ≡ Some (d.unsigned n)) }
 {

@@ -26,7 +26,7 @@ pub(crate) enum FrameKind {
 }
 
 /// What is written next.
-#[derive(Clone, Copy, PartialEq, Eq)]
+#[derive(Clone, Copy)]
 pub(crate) enum Next {
     /// A value, or the end of a list or a map.
     Value,

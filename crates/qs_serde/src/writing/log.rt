@@ -19,7 +19,7 @@ impl Model for Log {
 }
 
 /// One event, with what the serializer was given.
-#[derive(Clone, Copy, Drop)]
+#[derive(Clone, Copy)]
 pub(crate) enum Note<'a> {
     Bool(bool),
     I64(i64),

@@ -8,7 +8,7 @@ use crate::tree::value::ParsedValue;
 use std::alloc::{AllocError, AllocFailed, Global};
 
 /// Why a pair wasn't added. A conflict is boxed, to keep results small.
-#[derive(Debug, Drop)]
+#[derive(Drop)]
 pub(crate) enum AddError {
     Conflict(Box<Conflict>),
     OutOfMemory,
@@ -34,7 +34,7 @@ impl AddError {
 }
 
 /// A node to which a pair can't be added.
-#[derive(Debug, Drop)]
+#[derive(Drop)]
 pub(crate) struct Conflict {
     /// How many keys of the pair's path lead to the node.
     pub level: usize,
@@ -42,7 +42,7 @@ pub(crate) struct Conflict {
 }
 
 /// Which pair can't be added to which node.
-#[derive(Debug, Drop)]
+#[derive(Drop)]
 pub(crate) enum ConflictKind {
     /// A push onto a leaf.
     PushOnLeaf,

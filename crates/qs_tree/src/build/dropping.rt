@@ -3,7 +3,8 @@
 //! The loop follows first entries. Each vector stores the vector above it in place of its first node, so only the lowest has to be
 //! kept. Nodes below a search tree are dropped by recursion. That isn't deep: each search tree has so many keys that an input's length
 //! is quadratic in their depth.
-ghost use Rattle.std.specs.Prelude.{◌≡◌, ◌+◌, ◌<◌, ◌≤◌};
+ghost use Rattle.std.specs.Prelude.{◌≡◌, ◌+◌, ◌<◌, ◌≤◌, IfSome};
+ghost use Rattle.qs_spec.specs.Tree.{mapping};
 ghost use Rattle.qs_tree.specs.internal.tree.NodeCount.{node_count, entries_node_count};
 ghost use Rattle.qs_tree.specs.internal.build.Builder.{built_tree, entries_seen};
 
@@ -16,14 +17,8 @@ use std::collections::BTreeMap;
 #[cycle(dropping)]
 pub(crate) fn drop_builder<'qs>(node: TreeBuilder<'qs>) {
     let mut left = drop_first_leaf(node, TreeBuilder::fresh());
-    loop {
-        left = match left {
-            TreeBuilder::Map(map) => match map.into_form() {
-                Ok(entries) => without_last(entries),
-                Err(tree) => return drop_below(tree),
-            },
-            TreeBuilder::Value(_) | TreeBuilder::Unsorted(_) => return,
-        };
+    while let Some(entries) = vector_of(left) {
+        left = without_last(entries);
     }
 }
 
@@ -34,24 +29,32 @@ fn drop_first_leaf<'qs>(node: TreeBuilder<'qs>, above: TreeBuilder<'qs>) -> Tree
 {
     let mut node = node;
     let mut above = above;
-    loop {
-        let map = match node {
-            TreeBuilder::Map(map) => map,
-            TreeBuilder::Value(_) | TreeBuilder::Unsorted(_) => return above,
-        };
-        let mut entries = match map.into_form() {
-            Ok(entries) => entries,
-            Err(tree) => {
-                drop_below(tree);
-                return above;
-            }
-        };
+    while let Some(mut entries) = vector_of(node) {
         if entries.len() == 0 {
             entries.destroy_empty();
             return above;
         }
         node = entries.replace(0, above);
         above = TreeBuilder::Map(MapBuilder::Vector(entries));
+    }
+    above
+}
+
+// Returns the entries of a map that is a vector. Drops any other node, and returns `None`.
+#[cycle(dropping)]
+fn vector_of<'qs>(node: TreeBuilder<'qs>) -> Option<SortedEntries<Key<'qs>, TreeBuilder<'qs>>>
+    ensures { IfSome result (λ entries. built_tree node.entry ≡ mapping (entries_seen entries)) }
+{
+    let map = match node {
+        TreeBuilder::Map(map) => map,
+        TreeBuilder::Value(_) | TreeBuilder::Unsorted(_) => return None,
+    };
+    match map.into_form() {
+        Ok(entries) => Some(entries),
+        Err(tree) => {
+            drop_below(tree);
+            None
+        }
     }
 }
 

@@ -3,7 +3,7 @@
 mod conflict_position;
 mod steps;
 
-ghost use Rattle.std.specs.Prelude.{◌≡◌, ℕ, ◌+◌, ◌++◌, ◌<◌, ◌≤◌, ◌-◌, [], length, take, drop, IfSome, IfNone, IsTrue, true, false};
+ghost use Rattle.std.specs.Prelude.{◌≡◌, ◌==◌, ◌&&◌, ℕ, ◌+◌, ◌++◌, ◌<◌, ◌≤◌, ◌-◌, [], length, take, drop, not, IfSome, IfNone, IsTrue, true, false};
 ghost use Rattle.qs_spec.specs.Escape.{has_escape};
 ghost use Rattle.qs_spec.specs.Token.{raw_of, tokens};
 ghost use Rattle.qs_tree.specs.Parsing.{is_unescaped};
@@ -69,7 +69,8 @@ impl Token<'_> {
     /// Returns whether it is known to have no `+` and `%`.
     #[inline(always)]
     pub fn has_no_escape(&self) -> bool
-        ensures { IsTrue result → has_escape self.now.raw.now ≡ false }
+        ensures one { result ≡ (length self.now.raw.now == 1 && not (has_escape self.now.raw.now)) }
+        ensures known { IsTrue result → has_escape self.now.raw.now ≡ false }
     {
         matches!(self.raw, [byte] if *byte != b'+' && *byte != b'%')
     }
@@ -155,7 +156,6 @@ fn first_token(bytes: &[u8], is_form: bool) -> (TokenKind, usize)
 
 // Returns the length of a run, without the token that ends it, and whether it is known to have no `+` and `%`.
 #[inline(always)]
-#[tactic(auto, using(crate::proofs::lemmas::escape::FirstPlace::none_in_front))]
 fn run_len(bytes: &[u8], is_form: bool, until: Until) -> (usize, bool)
     ensures within { result.0 ≤ length bytes.now }
     ensures run { take result.0 bytes.now ≡ raw_of (cut (ends_of until) (tokens is_form bytes.now)).0 }

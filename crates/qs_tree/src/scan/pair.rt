@@ -13,7 +13,7 @@ use std::borrow::CowSlice;
 use std::mem;
 
 /// The value of a pair.
-#[derive(Debug, Drop)]
+#[derive(Drop)]
 pub(crate) enum Leaf<'qs> {
     /// No `=`.
     NoValue,
@@ -24,7 +24,7 @@ pub(crate) enum Leaf<'qs> {
 }
 
 /// How a pair adds its leaf to the node at its path.
-#[derive(Clone, Copy, Debug)]
+#[derive(Clone, Copy)]
 pub(crate) enum Manner {
     /// Adds it to the existing leaves, for any other key.
     Assign,
@@ -42,7 +42,7 @@ impl Manner {
 }
 
 /// A pair: a path of keys, and a leaf.
-#[derive(Debug, Drop)]
+#[derive(Drop)]
 pub(crate) struct Pair<'qs> {
     pub path: Path<'qs>,
     pub manner: Manner,

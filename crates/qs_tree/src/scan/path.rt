@@ -10,7 +10,7 @@ use std::mem;
 const FURTHER: usize = 6;
 
 /// The keys of a pair. Contracts see their list. The first is stored in place, so a path of one key doesn't allocate.
-#[derive(Debug, Drop)]
+#[derive(Drop)]
 pub(crate) struct Path<'qs> {
     first: Key<'qs>,
     rest: Vec<Key<'qs>>,

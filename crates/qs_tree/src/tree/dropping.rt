@@ -59,7 +59,6 @@ fn drop_first_leaf<'qs>(tree: ParsedValue<'qs>, above: ParsedValue<'qs>) -> Pars
 
 // Drops the last leaves of a map, or else the first leaf below its last entry, and returns the parent. The first entry of the map
 // is the node above.
-#[tactic(auto, using(crate::proofs::lemmas::tree::NodeCounts::entry_last))]
 fn without_last_entry<'qs>(map: ParsedMap<'qs>) -> ParsedValue<'qs>
     ensures { node_count (tree_of result) < node_count (mapping (entries_of_map map.entry)) }
 {
@@ -81,7 +80,6 @@ fn without_last_entry<'qs>(map: ParsedMap<'qs>) -> ParsedValue<'qs>
 
 // Drops the last leaves of a sequence, or else the first leaf below its last item, and returns the parent. The first item of the
 // sequence is the node above.
-#[tactic(auto, using(crate::proofs::lemmas::tree::NodeCounts::item_last))]
 fn without_last_item<'qs>(leaves: Vec<ParsedValue<'qs>>) -> ParsedValue<'qs>
     ensures { node_count (tree_of result) < node_count (sequence (items_of leaves.entry.items)) }
 {

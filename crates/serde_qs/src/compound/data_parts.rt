@@ -1,7 +1,5 @@
 //! The data that is written for structs and variants.
 
-#![tactic(auto, using(crate::proofs::Levels::levels))]
-
 ghost use Rattle.std.specs.Prelude.{◌≡◌, IfOk};
 ghost use Rattle.qs_spec.specs.Data.{members_of, values_of};
 ghost use Rattle.qs_spec.specs.Data as d;

@@ -1,7 +1,5 @@
 //! The fields of a struct, read from a node.
 
-#![tactic(auto, using(crate::proofs::Narrowed::of_reading))]
-
 ghost use Rattle.std.specs.Prelude.{◌≡◌, true, map};
 ghost use Rattle.qs_spec.specs.Node.{as_map, found};
 ghost use Rattle.qs_spec.specs.Shape.{field_names_differ, fields_of};
@@ -24,7 +22,7 @@ use std::marker::PhantomData;
 
 /// Returns the fields that a node holds: by their names among keys, and by their indices among items. A key that no field has is
 /// ignored or rejected.
-#[tactic(auto, using(crate::proofs::Narrowed::of_reading, qs_data::proofs::lemmas::read::ReadErrors::passed_on), unfolding(qs_spec::specs::internal::ReadFunction::struct_members))]
+#[tactic(auto, unfolding(qs_spec::specs::internal::ReadFunction::struct_members))]
 #[inline(always)]
 pub(crate) fn fields_of_struct<F: Fields>(
     reader: Reader,

@@ -1,7 +1,5 @@
 //! Structs, and variants with named fields.
 
-#![tactic(auto, using(crate::proofs::Levels::levels))]
-
 ghost use Rattle.std.specs.Prelude.{◌≡◌};
 ghost use Rattle.qs_spec.specs.Shape.{UnknownKeys as Unknown};
 ghost use Rattle.qs_data.specs.data.Views.{data_of};

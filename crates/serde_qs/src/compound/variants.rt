@@ -205,7 +205,6 @@ fn under_key<V: Variants>(
 }
 
 // Returns the name of a variant, which is empty for other data.
-#[tactic(auto, using(crate::proofs::Levels::levels))]
 fn name_of(datum: &Data) -> &str
     ensures { result.now ≡ name_in (data_of datum.now) }
 {

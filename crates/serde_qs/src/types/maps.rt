@@ -1,11 +1,10 @@
 //! Maps whose keys are strings.
 
-#![tactic(auto, using(crate::proofs::PairsPut::empty))]
-
-ghost use Rattle.std.specs.Prelude.{map, option_and_then};
+ghost use Rattle.std.specs.Prelude.{◌≡◌, IfOk, map, option_and_then};
 ghost use Rattle.qs_spec.specs.Data as d;
 ghost use Rattle.qs_spec.specs.internal.ReadFunction.{reads};
-ghost use Rattle.qs_data.specs.data.Views.{data_of, pairs_in};
+ghost use Rattle.qs_tree.specs.Error.{OnlyOutOfMemory};
+ghost use Rattle.qs_data.specs.data.Views.{data_of, pair_of, pairs_in};
 ghost use Rattle.qs_data.specs.read.Gives.{Gives};
 ghost use Rattle.qs_data.specs.read.Keys.{entries_view};
 ghost use Rattle.qs_data.specs.read.TreeText.{entries_are_text};
@@ -31,8 +30,7 @@ impl<T: Serialize> Serialize for BTreeMap<String, T> {
     fn to_data(&self, alloc: Global) -> Result<Data> {
         let mut pairs = Vec::new(alloc);
         for (key, value) in self {
-            let text = String::from_str(alloc, key.as_str())?;
-            pairs.push((Data::Text(text), value.to_data(alloc)?))?;
+            pairs.push(entry_of(alloc, key.as_str(), value)?)?;
         }
         Ok(Data::Map(pairs))
     }
@@ -43,6 +41,16 @@ impl<T: Serialize> Serialize for BTreeMap<String, T> {
         }
         write_pairs(writer, self)
     }
+}
+
+// Returns the data of a key and of its value.
+fn entry_of<T: Serialize>(alloc: Global, key: &str, value: &T) -> Result<(Data, Data)>
+    ensures exact { IfOk result (λ pair. pair_of pair ≡ (d.text key.now, T.datum value.now)) }
+    ensures errors { OnlyOutOfMemory result }
+{
+    let text = String::from_str(alloc, key)?;
+    let datum = value.to_data(alloc)?;
+    Ok((Data::Text(text), datum))
 }
 
 // Writes the values under their keys, in order.

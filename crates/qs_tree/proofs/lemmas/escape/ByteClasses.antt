@@ -13,7 +13,7 @@ classes_are u classes b small all is = by (is_escape b) (ends_of u (byte_kind b)
     by false false h = (refl, refl)
     by e k h = cc
 
-ordinary_are : (b : ℕ) → b < 256 → (get_or CLASSES b 0 == 48) ≡ not (is_ampersand b || is_escape b || b == 61 || b == 91 || b == 93)
+pub ordinary_are : (b : ℕ) → b < 256 → (get_or CLASSES b 0 == 48) ≡ not (is_ampersand b || is_escape b || b == 61 || b == 91 || b == 93)
 ordinary_are b small = agree_below_at (λ b. get_or CLASSES b 0 == 48) (λ b. not (is_ampersand b || is_escape b || b == 61 || b == 91 || b == 93)) 256 b refl small
 
 pub ordinary_alone : (b : ℕ) → b < 256 → (get_or CLASSES b 0 == 48) ≡ true → (is_ampersand b ≡ false) × (is_escape b ≡ false)

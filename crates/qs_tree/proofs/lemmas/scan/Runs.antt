@@ -1,5 +1,5 @@
 -- A run that is taken token by token.
-use Rattle.qs_tree.proofs.Common.{◌≡◌, ℕ, ◌+◌, ◌-◌, ◌≤◌, ◌&&◌, ◌||◌, ◌==◌, Bool, true, false, cond, List, [], ◌∷◌, ◌++◌, length, take, drop, get_or, ◌<◌, refl, sym, ap, ◌∙◌, subst, arith, Option, Some, None, append_assoc, length-append, length-drop, drop-drop, IfSome, take-add, take-append_seam, drop_more, take_all, TokenKind, Token, tokens, byte_token, is_escaped_bracket, raw_of, cut, cut_at, kind_of_token, token_of, from_token, taken, IsLeft, IsInside, byte_kind}
+use Rattle.qs_tree.proofs.Common.{◌≡◌, ℕ, ◌+◌, ◌-◌, ◌≤◌, ◌&&◌, ◌||◌, ◌==◌, Bool, true, false, cond, List, [], ◌∷◌, ◌++◌, length, take, drop, get_or, ◌<◌, refl, sym, ap, ◌∙◌, subst, arith, Option, Some, None, append_assoc, length-append, length-drop, drop-drop, IfSome, take-add, take-append_seam, drop_more, take_all, append-nil, drop_of_length-le, TokenKind, Token, tokens, byte_token, is_escaped_bracket, raw_of, cut, cut_at, kind_of_token, token_of, from_token, taken, IsLeft, IsInside, byte_kind}
 use Rattle.qs_tree.specs.declared.scan.cursor.Token as code
 use Rattle.qs_tree.proofs.lemmas.scan.Values.{stop_ends}
 
@@ -64,6 +64,28 @@ module _ (ends : TokenKind → Bool) (is_form : Bool) (bytes : List ℕ) where
       ∙ ap (λ l. record { kind = byte_kind b; raw = l } ∷ tokens is_form (drop (at + 1) bytes)) (sym (ap (take 1) front))
       ∙ ap (λ l. record { kind = byte_kind b; raw = take 1 (drop at bytes) } ∷ tokens is_form l) (sym (ap (drop 1) front)))
       inside.1
+
+  -- the run ends where the bytes do
+  pub end_at : (at : ℕ) → Within at → length bytes ≤ at → (take at bytes ≡ raw_of (cut ends (tokens is_form bytes)).0) × (tokens is_form (drop at bytes) ≡ (cut ends (tokens is_form bytes)).1)
+  end_at at h past =
+      let none : drop at bytes ≡ [] = drop_of_length-le bytes past in (
+        sym (append-nil (take at bytes)) ∙ ap (λ l. take at bytes ++ raw_of (cut ends (tokens is_form l)).0) (sym none) ∙ h.run,
+        ap (tokens is_form) none ∙ ap (λ l. (cut ends (tokens is_form l)).1) (sym none) ∙ h.stop,
+      )
+
+  -- the run ends before a token at the front of the slice from there on
+  pub stop_on : (at len : ℕ) (k : TokenKind) → Within at
+      → tokens is_form (take (length bytes - at) (drop at bytes)) ≡ record { kind = k; raw = take len (take (length bytes - at) (drop at bytes)) } ∷ tokens is_form (drop len (take (length bytes - at) (drop at bytes)))
+      → ends k ≡ true → (take at bytes ≡ raw_of (cut ends (tokens is_form bytes)).0) × (tokens is_form (drop at bytes) ≡ (cut ends (tokens is_form bytes)).1)
+  stop_on at len k h is it =
+      let t : Token = record { kind = k; raw = take len (drop at bytes) } in
+      let next = tokens is_form (drop len (drop at bytes)) in
+      let all : take (length bytes - at) (drop at bytes) ≡ drop at bytes = take_all (length bytes - at) (drop at bytes) (omega (arith, length-drop at bytes)) in
+      let front : tokens is_form (drop at bytes) ≡ t ∷ next = subst (λ l. tokens is_form l ≡ record { kind = k; raw = take len l } ∷ tokens is_form (drop len l)) all is in
+      let here : cut ends (tokens is_form (drop at bytes)) ≡ ([], t ∷ next) = ap (cut ends) front ∙ ap (λ x. cut_at x t next (cut ends next)) it in (
+        sym (append-nil (take at bytes)) ∙ ap (λ p. take at bytes ++ raw_of p.0) (sym here) ∙ h.run,
+        front ∙ ap (λ p. p.1) (sym here) ∙ h.stop,
+      )
 
 -- what follows a run ends it
 pub stop_kind : (ends : TokenKind → Bool) (ts : List Token) (stop : Option code.Token) (us : List Token) → (cut ends ts).1 ≡ from_token stop us → IfSome stop (λ t. ends (kind_of_token t.kind) ≡ true)

@@ -1,5 +1,5 @@
 -- How many nodes a value has, when a child is changed or taken out.
-use Rattle.qs_tree.proofs.Common.{◌≡◌, ℕ, zero, suc, ◌+◌, ◌<◌, ◌≤◌, List, [], ◌∷◌, ◌++◌, length, get_or, slice_get, slice_set, Some, option_map, Vec, Global, ap, ◌∙◌, arith, none-some, same_Some, Tree, Key, ParsedValue, Map, Sequence, ParsedMap, node_count, items_node_count, entries_node_count, put_value, tree_of, items_of}
+use Rattle.qs_tree.proofs.Common.{◌≡◌, ℕ, zero, suc, ◌+◌, ◌<◌, ◌≤◌, List, [], ◌∷◌, ◌++◌, length, get_or, slice_get, slice_set, Some, option_map, Vec, Global, refl, ap, ◌∙◌, arith, none-some, same_Some, Tree, Key, ParsedValue, Map, Sequence, ParsedMap, node_count, items_node_count, entries_node_count, put_value, tree_of, items_of}
 use Rattle.qs_tree.proofs.lemmas.tree.Keys.{Held, seen_view, entries_view, entries_of_map-map}
 use Rattle.qs_tree.proofs.lemmas.Views.{tree_of-Map, tree_of-Sequence}
 
@@ -17,6 +17,14 @@ map_nodes m = ap node_count (tree_of-Map m) ∙ ap (λ es. 2 + entries_node_coun
 
 pub sequence_nodes : (v : Vec ParsedValue Global) → nodes (Sequence v) ≡ 2 + item_nodes v.items
 sequence_nodes v = ap node_count (tree_of-Sequence v)
+
+pub no_entry_nodes : (es : Held) → length es ≡ 0 → entry_nodes es ≡ 0
+no_entry_nodes [] none = refl
+no_entry_nodes (e ∷ es) none = absurd (omega arith)
+
+pub no_item_nodes : (vs : List ParsedValue) → length vs ≡ 0 → item_nodes vs ≡ 0
+no_item_nodes [] none = refl
+no_item_nodes (v ∷ vs) none = absurd (omega arith)
 
 -- entries whose values are seen as trees
 module _ {X : Type 0} (seen : X → Tree) where

@@ -1,6 +1,6 @@
 //! The classes of bytes that a parser looks for: delimiters, brackets, `+` and `%`. All others are ordinary.
 
-ghost use Rattle.std.specs.Prelude.{◌≡◌, false, IsTrue};
+ghost use Rattle.std.specs.Prelude.{◌≡◌, ◌==◌, ◌||◌, false, not, IsTrue};
 ghost use Rattle.qs_tree.specs.escape.Classes.{is_ampersand, is_escape};
 
 /// The bit of `&` and `=`.
@@ -27,6 +27,7 @@ pub(crate) static CLASSES: [u8; 256] = *b"\
 #[inline(always)]
 #[tactic(auto, using(crate::proofs::lemmas::escape::ByteClasses::ordinary_alone))]
 pub(crate) fn is_ordinary(byte: u8) -> bool
+    ensures all { result ≡ not (is_ampersand byte || is_escape byte || byte == 61 || byte == 91 || byte == 93) }
     ensures ampersand { IsTrue result → is_ampersand byte ≡ false }
     ensures has_no_escape { IsTrue result → is_escape byte ≡ false }
 {

@@ -1,7 +1,22 @@
 use Rattle.qs_tree.proofs.Common.{◌≡◌, ◌+◌, ◌<◌, length, ap, ◌∙◌, arith, Map, roll-ParsedMap, tree_of}
 use Rattle.std.specs.Vec.{with_item}
-use Rattle.qs_tree.proofs.lemmas.tree.NodeCounts.{nodes, entry_nodes, item_nodes, map_nodes, sequence_nodes, entry_put, entry_within, item_put, item_within}
+use Rattle.qs_tree.proofs.lemmas.tree.NodeCounts.{nodes, entry_nodes, item_nodes, map_nodes, sequence_nodes, entry_put, entry_within, item_put, item_within, no_entry_nodes, no_item_nodes}
 use Rattle.qs_tree.proofs.tree.dropping.drop_first_leaf.Goals as goal
+
+pub returns-then-len-eq0 : goal.returns-then-len-eq0
+returns-then-len-eq0 c =
+    let m = c.in-Map.map in
+    let before : nodes c.loop-tree.tree ≡ 2 + entry_nodes m.map = ap nodes c.in-Map.is ∙ map_nodes m in
+    let none : entry_nodes m.map ≡ 0 = no_entry_nodes m.map (omega (arith, c.if-len-eq0.true, c.len.ensures, ap length c.into_entries-entries.ensures)) in
+    (omega (arith, c.loop-tree.invariant, before, none), omega (arith, c.loop-tree.invariant, before, none))
+
+pub returns-then-is_empty : goal.returns-then-is_empty
+returns-then-is_empty c =
+    let v = c.in-Sequence.items in
+    let before : nodes c.loop-tree.tree ≡ 2 + item_nodes v.items = ap nodes c.in-Sequence.is ∙ sequence_nodes v in
+    let empty : length v.items ≡ 0 = Prim.grind (arith, v.ok.0, c.is_empty.ensures, c.if-is_empty.true) in
+    let none : item_nodes v.items ≡ 0 = no_item_nodes v.items empty in
+    (omega (arith, c.loop-tree.invariant, before, none), omega (arith, c.loop-tree.invariant, before, none))
 
 pub loop-tree-smaller-in-Map : goal.loop-tree-smaller-in-Map
 loop-tree-smaller-in-Map c =

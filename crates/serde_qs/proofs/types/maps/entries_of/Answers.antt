@@ -15,9 +15,12 @@ use Rattle.qs_data.proofs.lemmas.read.Errors.{gives_exit}
 use Rattle.serde_qs.specs.Maps.{nowhere, values_by_text, with_value}
 use Rattle.serde_qs.specs.internal.NodeEntries.{entries_onto}
 use Rattle.serde_qs.proofs.NodeEntries.{entry_all, entry_end, entry_more, entry_rejected, node_bad}
-use Rattle.serde_qs.proofs.PairsPut.{values_put}
+use Rattle.serde_qs.proofs.PairsPut.{values_none, values_put}
 use Rattle.serde_qs.proofs.types.maps.entries_of.Goals as goal
 use Rattle.serde_qs.proofs.types.maps.entries_of.Goals.{else-loop-i-test, then-loop-i-test+in_ok-key+in_default}
+
+pub loop-i-init : goal.loop-i-init
+loop-i-init g c = grind (arith, values_none)
 
 pub returns-in_err-key : goal.returns-in_err-key
 returns-in_err-key g c =

@@ -5,19 +5,7 @@
 source "$(dirname "${BASH_SOURCE[0]}")/support/counting.sh"
 
 failing=$room/fail_allocation.so
-kit=$(dirname "$(dirname "$(readlink -f "$(command -v rt)")")")
-for compiler in "$kit/toolchain/bin/clang" clang gcc cc; do
-    if [ ! -e "$failing" ] && command -v "$compiler" >/dev/null; then
-        "$compiler" -shared -fPIC -O1 -nostdlib -fno-builtin -o "$failing" "$root/scripts/support/fail_allocation.c" \
-            >>"$room/compiled" 2>&1 || rm -f "$failing"
-    fi
-done
-if [ ! -e "$failing" ]; then
-    cat "$room/compiled"
-    fail 'no compiler makes the library that makes allocations fail'
-    report
-    exit 1
-fi
+make_preloaded fail_allocation
 
 # count_silent ARGUMENTS..: $silent is the number of the last allocation for the arguments, which may fail without a line. A run with as
 # many arguments, of which the first isn't a command, allocates them and writes the usage line.

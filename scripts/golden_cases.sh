@@ -23,7 +23,7 @@ is_written() {
 # cases TABLE: each row of the table.
 cases() {
     local number=0 status arguments input wanted output
-    while IFS=$'\t' read -r arguments input wanted output; do
+    while IFS=$'\t' read -r arguments input wanted output _; do
         number=$((number + 1))
         read -ra words <<<"$arguments"
         bytes "$input" >"$room/input"

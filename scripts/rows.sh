@@ -62,6 +62,7 @@ row "$person" 0 "$person&note" flat --duplicates last --format empty --form
 row "$person" 0 "$person&note" flat --form --format unindexed --duplicates error
 row 'a[b]=1' 0 "{'a%5Bb%5D':'1'}" any --duplicates last --depth +0
 row 'a[b]=1' 0 "{'a':{'b':'1'}}" any --depth 007
+row 'a[b]=1' 0 "{'a':{'b':'1'}}" any --depth 18446744073709551615
 
 # misuse SAID ARGUMENTS..: the usage line with status 2, whatever the input is, and this on standard error
 misuse() {
@@ -88,6 +89,7 @@ misuse "unknown command '--form'" --form flat
 misuse "unknown command '-h'" -h
 misuse "unknown command '--help'" --help flat
 misuse "unknown command '--version'" --version --version
+misuse "unknown command '--help'" --help --version
 misuse "unknown option '--help'" any --help
 misuse "unknown option 'flat'" flat flat
 misuse "unknown option '--dept'" any --dept 1

@@ -1,5 +1,5 @@
 #!/usr/bin/env bash
-# Streams that fail: the status is 3, and only a prefix of the line is written.
+# Streams that fail, at their beginning or in the middle: the status is 3, and only a prefix of the line is written.
 source "$(dirname "${BASH_SOURCE[0]}")/support/counting.sh"
 
 person='name=a&age=1&occupation=b'
@@ -76,6 +76,44 @@ expect 'flat, an input that comes in pieces' 0 "$line"
 in_pieces "$order" | "$program" params >"$room/output"
 status=${PIPESTATUS[1]}
 expect 'params, an input that comes in pieces' 0 "$order"$'\n'
+
+# A byte for each read and a few for each write, up to a call that fails, is interrupted or moves nothing. After it the streams go on, so a
+# call that is repeated shows.
+make_preloaded failing_stream
+failing=$room/failing_stream.so
+alice='age=24&occupation=Student&name=Alice+B.'
+answer=$'name=Alice+B.&age=24&occupation=Student&note\n'
+fails=5 interrupted=4 nothing=0
+
+# run_failing SETTING..: flat on $room/input, with these settings of failing_stream.c.
+run_failing() {
+    env LD_PRELOAD="$failing" "$@" "$program" flat <"$room/input" >"$room/output"
+    status=$?
+}
+
+printf '%s' "$alice" >"$room/input"
+for error in $fails $interrupted; do
+    for ((at = 0; at <= ${#alice}; at++)); do
+        run_failing INPUT_ENDS_AT=$at INPUT_ERROR=$error
+        expect "a read after $at bytes ends with error $error" 3 ''
+    done
+done
+for error in $fails $interrupted $nothing; do
+    for ((at = 0; at < ${#answer}; at++)); do
+        run_failing OUTPUT_STEP=5 OUTPUT_ENDS_AT=$at OUTPUT_ERROR=$error
+        expect "a write after $at bytes ends with error $error" 3 "${answer:0:at}"
+    done
+done
+run_failing
+expect 'a byte at a time' 0 "$answer"
+
+# a million reads at most: the last of them reaches the end, or doesn't
+{ printf '%s' "$alice"; printf '%*s' $((999999 - ${#alice})) '' | tr ' ' '&'; } >"$room/input"
+run_failing
+expect 'a million reads' 0 "$answer"
+printf '&' >>"$room/input"
+run_failing
+expect 'more than a million reads' 3 ''
 
 # more than one read, at the length of one read and next to it
 for length in 8191 8192 8193 100000 9000000; do

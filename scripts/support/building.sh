@@ -44,9 +44,14 @@ sum_of() {
     sha256sum <"$file"
 }
 
-# note_made NAME FILE SUM: notes that what was built of the crate is this file, made from what has that sum.
+# note_made NOTE FILE SUM: notes that what was built is this file, made from what has that sum.
 note_made() {
-    printf '%s\n' "$3" "$(sum_of "$2")" >"$root/crates/$1/out/$1.made"
+    printf '%s\n' "$3" "$(sum_of "$2")" >"$1"
+}
+
+# is_noted NOTE FILE SUM: the note says this, and the file is as it was then.
+is_noted() {
+    [ -e "$1" ] && [ -e "$2" ] && [ "$(cat "$1")" = "$3"$'\n'"$(sum_of "$2")" ]
 }
 
 # is_made NAME FILE: what was built of the crate is this file, and nothing that it was made from has changed. If rt ci built it, which
@@ -56,9 +61,9 @@ is_made() {
     [ -e "$2" ] || return 1
     sum=$(made_from "$1")
     if [ -e "$note" ]; then
-        [ "$(cat "$note")" = "$sum"$'\n'"$(sum_of "$2")" ]
+        is_noted "$note" "$2" "$sum"
     else
-        (cd "$root/crates" && is_newer "$2" ../crates.txt $(parts_of "$1")) && note_made "$1" "$2" "$sum"
+        (cd "$root/crates" && is_newer "$2" ../crates.txt $(parts_of "$1")) && note_made "$note" "$2" "$sum"
     fi
 }
 
@@ -71,15 +76,43 @@ tell() {
 }
 
 # build_program NAME: proves and builds the program of that crate if it is missing or out of date, and runs it once without input.
-# The output of the build goes to standard error.
+# The output of the build goes to standard error. A second build of it waits for the first.
 build_program() {
-    local name=$1 program=$root/crates/$1/out/$1 sum
-    is_made "$name" "$program" && return 0
-    # A crate that is edited meanwhile has another checksum than this one.
-    sum=$(made_from "$name")
-    rm -f "$program"
-    (cd "$root/crates/$name" && rt run) </dev/null >&2
-    [ -x "$program" ] && note_made "$name" "$program" "$sum"
+    local name=$1 folder=$root/crates/$1/out
+    mkdir -p "$folder" || return 1
+    (
+        flock 9 || exit 1
+        is_made "$name" "$folder/$name" && exit
+        # A crate that is edited meanwhile has another checksum than this one.
+        sum=$(made_from "$name")
+        rm -f "$folder/$name"
+        (cd "$root/crates/$name" && rt run)
+        [ -x "$folder/$name" ] && note_made "$folder/$name.made" "$folder/$name" "$sum"
+    ) 9>"$folder/building.lock" </dev/null >&2
+}
+
+# is_made_unproved NAME: the unproved build of the program of that crate is there, and nothing that it was made from has changed. It has a folder
+# of its own, so nothing takes it for the proved one.
+is_made_unproved() {
+    local folder=$root/crates/$1/out/unproved
+    is_noted "$folder/made" "$folder/$1" "$(made_from "$1")"
+}
+
+# build_unproved NAME: builds the program of that crate without a proof, in out/unproved, if it is missing there or out of date. The output of the
+# build goes to building.log there. A second build of it waits for the first.
+build_unproved() {
+    local name=$1 folder=$root/crates/$1/out/unproved
+    mkdir -p "$folder" || return 1
+    (
+        flock 9 || exit 1
+        is_made_unproved "$name" && exit
+        sum=$(made_from "$name")
+        command -v rt >/dev/null || { echo 'rt is not on the path' >"$folder/building.log" && exit 1; }
+        kit=$(dirname "$(dirname "$(readlink -f "$(command -v rt)")")")
+        rm -f "$folder/new"
+        python3 "$root/scripts/support/build_unproved.py" "$root" "$name" "$kit" "$folder/new" >"$folder/building.log" 2>&1
+        [ -x "$folder/new" ] && mv -f "$folder/new" "$folder/$name" && note_made "$folder/made" "$folder/$name" "$sum"
+    ) 9>"$folder/lock" </dev/null
 }
 
 # is_left NAME: rt ci has proved the library and left it, and nothing that it was made from has changed since.
@@ -103,5 +136,5 @@ build_static() {
     {
         [ $# -eq 0 ] && python3 "$root/scripts/support/build_static.py" "$root" "$name" "$kit" ||
             (cd "$root/crates/$name" && rt lib)
-    } </dev/null >&2 && touch "$static" && note_made "$name" "$static" "$sum"
+    } </dev/null >&2 && touch "$static" && note_made "$root/crates/$name/out/$name.made" "$static" "$sum"
 }

@@ -39,6 +39,20 @@ expect() {
     fi
 }
 
+# make_preloaded NAME: makes $room/NAME.so of scripts/support/NAME.c, to be loaded before the C library. The script ends where no compiler can.
+make_preloaded() {
+    local kit compiler
+    kit=$(dirname "$(dirname "$(readlink -f "$(command -v rt)")")")
+    for compiler in "$kit/toolchain/bin/clang" clang gcc cc; do
+        command -v "$compiler" >/dev/null || continue
+        "$compiler" -shared -fPIC -O1 -nostdlib -fno-builtin -o "$room/$1.so" "$root/scripts/support/$1.c" >>"$room/compiled" 2>&1 && return
+    done
+    cat "$room/compiled"
+    fail "no compiler makes a library of $1.c"
+    report
+    exit 1
+}
+
 report() {
     echo "$subject: $passed passed, $failed failed"
     [ "$failed" -eq 0 ]

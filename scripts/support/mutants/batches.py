@@ -1,5 +1,7 @@
 """Which mutants of a crate one check can try: at most one a function."""
 
+import itertools
+
 import edits
 from functions import at_line, functions_of
 
@@ -9,7 +11,7 @@ class Sources:
 
     def __init__(self, folder):
         self.folder = folder
-        self.texts, self.found = {}, {}
+        self.texts, self.found, self.starts = {}, {}, {}
 
     def text(self, file):
         if file not in self.texts:
@@ -25,23 +27,31 @@ class Sources:
     def line(self, file, at):
         return self.text(file).count("\n", 0, at) + 1
 
+    def span(self, function):
+        """Returns the offsets at which a function's body begins and ends."""
+        if function.file not in self.starts:
+            lengths = [len(line) for line in self.text(function.file).splitlines(keepends=True)]
+            self.starts[function.file] = [0, *itertools.accumulate(lengths)]
+        starts = self.starts[function.file]
+        return starts[function.body - 1], starts[function.ends]
+
 
 class Edited:
     """A mutant, and what it edits: functions' bodies, and lines of imports beside them; or anything else, and then it is tried alone."""
 
     def __init__(self, sources, mutant):
         self.mutant, self.functions, self.keys, self.cycles, self.lines = mutant, [], set(), set(), set()
-        self.alone = False
+        # Why it can't be applied.
+        self.bad, self.alone = "", False
         try:
-            places = edits.places(sources.text, mutant)
-        except edits.BadEdit:
-            # (or one whose pairs apply to what earlier ones made)
-            places, self.alone = [], True
+            places = edits.places(sources, mutant)
+        except edits.BadEdit as error:
+            places, self.bad = [], str(error)
         for file, at, old, _ in places:
             line = sources.line(file, at)
             function = at_line(sources.functions(file), line)
             self.lines.add((file, line))
-            if function:
+            if function and line + old.count("\n") <= function.ends:
                 self.functions.append(function)
                 self.keys.add((file, function.begins))
                 self.cycles |= {function.cycle} - {""}

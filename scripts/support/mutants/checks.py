@@ -6,6 +6,7 @@ import shutil
 import subprocess
 import sys
 import tempfile
+import threading
 
 KIT = pathlib.Path(shutil.which("rt") or "rt").resolve().parent.parent
 sys.path.insert(0, str(KIT / "bin"))
@@ -60,7 +61,8 @@ class Room:
     def __init__(self, crate, root, begun):
         self.crate, self.at, self.begun = crate, pathlib.Path(root) / crate.name, begun
         self.at.mkdir()
-        self.seed = self.at / "seed"
+        self.is_proved = False
+        self.seed, self.taking = self.at / "seed", threading.Lock()
 
     def words(self, jobs):
         with open(os.devnull, "w") as self.crate.out:
@@ -74,6 +76,7 @@ class Room:
                     shutil.copytree(f"{self.crate.folder}/{part}", f"{room}/{part}")
             for file, text in changed.items():
                 pathlib.Path(room, file).write_text(text, encoding="utf-8")
+            self.take()
             kept = self.seed
             if not over_seed:
                 kept = pathlib.Path(room, "kept")
@@ -87,15 +90,22 @@ class Room:
                     watch(line)
             return run.returncode, "".join(said)
 
+    def take(self):
+        """Begins the seed with what a check of the crate kept."""
+        with self.taking:
+            if self.seed.is_dir():
+                return
+            begun = next((it for it in self.begun if it.is_dir()), None)
+            if begun:
+                linked(begun, self.seed, is_written)
+            else:
+                self.seed.mkdir()
+
     def prove(self, jobs, watch):
         """Makes the seed: proves the crate as it stands, over what a check of it kept. Returns whether it is proved, and what was said."""
-        begun = next((it for it in self.begun if it.is_dir()), None)
-        if begun:
-            linked(begun, self.seed, is_written)
-        else:
-            self.seed.mkdir()
         status, said = self.check({}, jobs, watch=watch, over_seed=True)
-        return status == 0, said
+        self.is_proved = status == 0
+        return self.is_proved, said
 
 
 def is_written(file):

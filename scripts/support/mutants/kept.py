@@ -31,7 +31,8 @@ def sum_of(crate):
 class Kept:
     """The verdicts on a crate's mutants, by the checksum of each edit."""
 
-    def __init__(self, crate, anew):
+    def __init__(self, crate, sources, anew):
+        self.sources = sources
         self.file = PLACE / f"{crate.name}-{sum_of(crate)}.json"
         self.known = {} if anew else self.read()
 
@@ -44,12 +45,12 @@ class Kept:
             return {}
 
     def get(self, mutant):
-        found = self.known.get(mutant.sum)
+        found = self.known.get(mutant.sum(self.sources))
         return (Verdict(found[0]), found[1]) if found else None
 
     def put(self, results):
         """Keeps what was learned of these mutants. Where the disk refuses, the next run tries them again."""
-        self.known.update({mutant.sum: (verdict.value, why) for mutant, (verdict, why) in results if verdict in LEARNED})
+        self.known.update({mutant.sum(self.sources): (verdict.value, why) for mutant, (verdict, why) in results if verdict in LEARNED})
         try:
             PLACE.mkdir(parents=True, exist_ok=True)
             new = self.file.with_suffix(f".{os.getpid()}")

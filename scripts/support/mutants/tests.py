@@ -22,7 +22,7 @@ def verdict(root, mutant):
         for file in ("crates.txt", "HANDLES"):
             shutil.copy(f"{root}/{file}", room)
         folder = pathlib.Path(room, "crates", mutant.crate)
-        for file, text in edits.applied_in_turn(Sources(folder).text, mutant).items():
+        for file, text in edits.applied(Sources(folder), [mutant]).items():
             (folder / file).write_text(text, encoding="utf-8")
         ran = subprocess.run(["rt", "try", "--test"], cwd=f"{room}/crates/{test[1]}", stdout=subprocess.PIPE, stderr=subprocess.STDOUT, text=True, errors="replace")
     ended = re.search(rf"^test (?:\w+::)*{re.escape(test[2])} \.\.\. (\w+)", ran.stdout, re.M)

@@ -18,6 +18,11 @@ vendored() {
 
 mkdir "$shop"
 vendored 'into an empty folder' 0
+if head -n 1 "$shop/crates/qs_tree/ORIGIN" | grep -qxE 'qs_tree [0-9.]+ of the verified port of serde_qs 1\.1\.3, commit .*'; then
+    pass
+else
+    fail "ORIGIN doesn't say of which version it is: $(head -n 1 "$shop/crates/qs_tree/ORIGIN")"
+fi
 mkdir -p "$first/src"
 awk '/^    #!\[tactic\(auto\)\]/ { shown = 1 } shown && /^[^ ]/ { exit } shown { print substr($0, 5) }' "$root/README.md" >"$first/src/main.rt"
 echo 'first: qs_serde serde' >>"$shop/crates.txt"

@@ -78,7 +78,7 @@ tree 'equals signs'
 
 times $long '&' >"$room/input"
 echo 'error: internal error: attempted to deserialize unitialised value' >"$room/wanted"
-load 'ampersands' 1 plain any
+load 'ampersands' 1 letters any
 
 # nested_text COUNT VALUE: a pair whose key has COUNT brackets.
 nested_text() {

@@ -69,7 +69,7 @@ unknown 'unknown keys, each with an escape' '%6bey&'
 
 numbers $count 'in order' | sed 's/^0*\(.\)/\1/' | joined , | between 'a=' '&b[a]=1&b[b]=2' >"$room/wanted"
 tr -d '\n' <"$room/wanted" >"$room/input"
-load "$count numbers in one text" 0 plain lists
+load "$count numbers in one text" 0 letters lists
 
 # explained NAME MEASURE TYPE LINE: why the type doesn't read the input.
 explained() {
@@ -88,7 +88,7 @@ explained "a map of $((count / 2)) structs whose last field is wrong" pairs=$cou
 { printf 'a=&'; ranges 'b[%d]' 'in order' | sed 's/[0-9]*$/x/'; } >"$room/input"
 explained "a list of $((count / 2)) structs whose last field is wrong" pairs=$count ranges "b[$((count / 2 - 1))][to]: expected u32, found the text \"x\""
 { printf 'x=1'; times 1000000 '&a[+'; } >"$room/input"
-explained '4 MB of unclosed keys' plain map "parsing failed with error: 'unexpected end of input while parsing nested key' at position: $(($(wc -c <"$room/input") + 1))"
+explained '4 MB of unclosed keys' letters map "parsing failed with error: 'unexpected end of input while parsing nested key' at position: $(($(wc -c <"$room/input") + 1))"
 
 # plain NAME LINE: whether a map and a struct with these items as keys and names are plain.
 plain() {

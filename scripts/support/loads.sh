@@ -1,16 +1,16 @@
 # Inputs made to be expensive, on the built program. Each has to print the right line, and may take at most some multiple of
 # the processor time and the peak memory of another input, its measure:
-# - plain: one value of letters, as long as the input, which makes few nodes;
+# - letters: one value of letters, as long as the input, which makes few nodes;
 # - pairs=N: N pairs in order, each with a key of its own, if the input makes a tree of as many nodes;
 # - maps=N: N pairs in order, each of them a map of its own, as each bracket of a deep key makes one.
-# These trees are larger than their bytes. They may take a bounded amount more than a plain input.
+# These trees are larger than their bytes. They may take a bounded amount more than the letters.
 # A script sources this first and ends with `report_loads`.
 source "$(dirname "${BASH_SOURCE[0]}")/counting.sh"
 support=$(dirname "${BASH_SOURCE[0]}")
 
-declare -A most_time=([plain]=4 [pairs]=8 [maps]=8)
+declare -A most_time=([letters]=4 [pairs]=8 [maps]=8)
 most_memory=2
-# The trees in order: the multiple of a plain input's time, and the additional bytes for each pair or map.
+# The trees in order: the multiple of the letters' time, and the additional bytes for each pair or map.
 most_tree_time=60
 declare -A most_bytes=([pairs]=320 [maps]=1200)
 # A shorter run counts as one of this many seconds: the program's start is most of it.
@@ -22,7 +22,7 @@ most_runs=7
 measure=any
 declare -A measures=()
 declare -A below=([pairs]= [maps]='[b]')
-declare -A slowest=([plain]=0 [pairs]=0 [maps]=0) widest=([plain]=0 [pairs]=0 [maps]=0)
+declare -A slowest=([letters]=0 [pairs]=0 [maps]=0) widest=([letters]=0 [pairs]=0 [maps]=0)
 declare -A slowest_name=() widest_name=()
 
 # measured INPUT ARGUMENT..: runs the program: its status, seconds and KiB.
@@ -55,15 +55,15 @@ taken_by() {
     is_over "$least_time" "$least_seconds" || least_time=$least_seconds
 }
 
-# by_plain INPUT: the measure $held_by is a plain input that is as long.
-by_plain() {
+# by_letters INPUT: the measure $held_by is one value of letters that is as long.
+by_letters() {
     local bytes
     bytes=$(wc -c <"$1")
-    held_by=plain=$bytes
+    held_by=letters=$bytes
     [ -f "$room/$held_by" ] || { printf 'a='; times "$bytes" v; } | head -c "$bytes" >"$room/$held_by"
 }
 
-# by_tree MEASURE: the measure $held_by is this tree in order, `pairs=N` or `maps=N`. The first time it is held against its plain input.
+# by_tree MEASURE: the measure $held_by is this tree in order, `pairs=N` or `maps=N`. The first time it is held against its letters.
 by_tree() {
     local kind=${1%=*} count=${1#*=}
     if [ ! -f "$room/$1" ]; then
@@ -73,30 +73,30 @@ by_tree() {
     held_by=$1
 }
 
-# hold_tree KIND COUNT: tests that a tree in order takes no more than it may, compared with a plain input.
+# hold_tree KIND COUNT: tests that a tree in order takes no more than it may, compared with the letters.
 hold_tree() {
     local kind=$1 count=$2 time memory bytes
     taken_by "$kind=$count"
     time=$least_time memory=$least_memory
-    by_plain "$room/$kind=$count"
+    by_letters "$room/$kind=$count"
     taken_by "$held_by"
     time=$(quotient "$time" "$least_time")
     bytes=$(((memory - least_memory) * 1024 / count))
     if is_over "$time" $most_tree_time; then
-        fail "$count $kind in order: $time times the time of a plain input, and not $most_tree_time"
+        fail "$count $kind in order: $time times the time of the letters, and not $most_tree_time"
     elif [ "$bytes" -gt "${most_bytes[$kind]}" ]; then
         fail "$count $kind in order: $bytes bytes for each, and not ${most_bytes[$kind]}"
     else
         pass
     fi
-    [ -z "${SHOW_LOADS:-}" ] || echo "$count $kind in order: $time times the time of a plain input, and $bytes bytes more for each"
+    [ -z "${SHOW_LOADS:-}" ] || echo "$count $kind in order: $time times the time of the letters, and $bytes bytes more for each"
 }
 
 # load NAME STATUS MEASURE COMMAND OPTION..: what the command prints for $room/input has to be the line $room/wanted.
 load() {
     local name=$1 wanted=$2 kind=${3%=*} quotients=() status seconds memory time wide
-    if [ "$kind" = plain ]; then
-        by_plain "$room/input"
+    if [ "$kind" = letters ]; then
+        by_letters "$room/input"
     else
         by_tree "$3"
     fi
@@ -138,15 +138,15 @@ load() {
 tree() {
     local name=$1
     shift
-    load "$name" 0 plain any "$@"
+    load "$name" 0 letters any "$@"
 }
 
-# rejected NAME POSITION MESSAGE OPTION..: the input is rejected there. The measure is plain, or $against.
+# rejected NAME POSITION MESSAGE OPTION..: the input is rejected there. The measure is letters, or $against.
 rejected() {
     local name=$1 position=$2 message=$3
     shift 3
     echo "error: parsing failed with error: '$message' at position: $position" >"$room/wanted"
-    load "$name" 1 "${against:-plain}" any "$@"
+    load "$name" 1 "${against:-letters}" any "$@"
 }
 
 # numbers COUNT ORDER: the numbers below COUNT, with at least six digits, in an order, one a line.
@@ -178,7 +178,7 @@ between() {
 
 report_loads() {
     local kind
-    for kind in plain pairs maps; do
+    for kind in letters pairs maps; do
         if [ -n "${slowest_name[$kind]:-}" ]; then
             echo "measured by $kind, the longest took ${slowest[$kind]} times the time: ${slowest_name[$kind]}"
             echo "measured by $kind, the widest took ${widest[$kind]} times the memory: ${widest_name[$kind]}"

@@ -145,6 +145,11 @@ pub fn all(small: bool) -> Vec<Case> {
     cases
 }
 
+/// Reads of pairs into a map, each with the number of pairs for its name.
+pub fn map_reads() -> Vec<Case> {
+    typed::map_reads(&inputs::COUNTS)
+}
+
 /// So many of a kind.
 fn counted(count: usize, kind: &str) -> String {
     let ending = if count == 1 { "" } else { "s" };

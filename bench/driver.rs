@@ -1,7 +1,7 @@
 //! Measures the calls of the static library `qs_bench`, and prints a table.
 //!
 //! `driver WORD..` takes the cases whose name holds one of the words, and all without a word. `driver --quick ..` takes small
-//! cases and doesn't measure them. The status is 1 where a result is wrong.
+//! cases and doesn't measure them. The status is 1 where a result is wrong. `driver --pairs` measures reads into a map for bench/plot.
 
 mod calls;
 mod cases;
@@ -15,6 +15,9 @@ use timing::{grouped, nanoseconds};
 
 fn main() -> ExitCode {
     let mut words: Vec<String> = std::env::args().skip(1).collect();
+    if words == ["--pairs"] {
+        return print_pairs();
+    }
     let is_quick = words.first().is_some_and(|word| word == "--quick");
     if is_quick {
         words.remove(0);
@@ -36,6 +39,19 @@ fn main() -> ExitCode {
         print_table(&cases);
     }
     ExitCode::from(u8::from(!wrong.is_empty()))
+}
+
+/// Prints a line for each number of pairs that are read into a map: a name, the number and the nanoseconds, with tabs between them.
+fn print_pairs() -> ExitCode {
+    let cases = cases::map_reads();
+    if !cases.iter().all(Case::is_right) {
+        return ExitCode::FAILURE;
+    }
+    for case in cases {
+        let time = nanoseconds(|times| case.repeat(times));
+        println!("this library, by derives\t{}\t{time:.0}", case.name);
+    }
+    ExitCode::SUCCESS
 }
 
 /// How often all cases are measured: a machine is slower at some times than at others.

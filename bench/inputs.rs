@@ -35,6 +35,9 @@ impl Generator {
     }
 }
 
+/// The numbers of pairs for which `bench/plot` shows the time of a read into a map.
+pub const COUNTS: [usize; 6] = [1, 10, 100, 1_000, 10_000, 100_000];
+
 /// How the keys of an input follow one another.
 #[derive(Clone, Copy, PartialEq, Eq)]
 pub enum Order {

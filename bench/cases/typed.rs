@@ -6,6 +6,16 @@ use crate::calls::{Means, Type};
 use crate::inputs::{self, Order};
 use crate::timing::grouped;
 
+/// Reads of so many pairs in order into a map, by serde's derives.
+pub(super) fn map_reads(counts: &[usize]) -> Vec<Case> {
+    let read = |&count: &usize| {
+        let input = inputs::pairs(count, Order::InOrder, "key", "");
+        let call = Call::ReadTyped(Type::Map, Means::Derives);
+        Case::new(count.to_string(), input, call)
+    };
+    counts.iter().map(read).collect()
+}
+
 /// A struct, the record, a list, a map and a nested text: each is read and written, by `Compound` and by serde's derives.
 pub(super) fn all(many: usize) -> Vec<Case> {
     let ids: Vec<String> = (0..many)

@@ -120,7 +120,8 @@ class Page:
             for table in TABLE.findall(section):
                 calls, above = [], []
                 for row in table.strip("\n").split("\n"):
-                    first, _, cell = (it.strip() for it in row.strip("|").rsplit(" | ", 2)) if row.count(" | ") > 2 else (it.strip() for it in row.strip("|").split(" | "))
+                    first, rest = row.strip("|").split(" | ", 1)
+                    first, cell = first.strip(), rest.rsplit(" | ", 1)[1].strip()
                     calls = self.calls(first, calls, above)
                     above += [it for it in calls if it not in above]
                     self.check_row(f"{where}, {heading}", own, calls, cell)

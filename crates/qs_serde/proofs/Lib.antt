@@ -1,5 +1,6 @@
 pub mod Names
 pub mod Places
+pub mod Runs
 pub mod Positions
 pub mod Kept
 pub mod Written

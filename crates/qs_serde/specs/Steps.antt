@@ -3,7 +3,7 @@ use Rattle.std.specs.Prelude.{◌≡◌, ◌⊎◌, ◌↔◌, ℕ, suc, pos, ne
 use Rattle.qs_spec.specs.Leaf.Leaf.{NoValue, Null, Text}
 use Rattle.qs_spec.specs.Tree.{Tree, Entries}
 use Rattle.qs_spec.specs.Tree.Tree.{leaf, sequence, mapping, uninitialized}
-use Rattle.qs_spec.specs.Node.{items}
+use Rattle.qs_spec.specs.Node.{IsFull, items}
 use Rattle.qs_spec.specs.Data as d
 use Rattle.qs_spec.specs.Shape as s
 use Rattle.qs_tree.specs.tree.Views.{tree_of, entry_list}
@@ -136,6 +136,10 @@ pub record EntryComes (i : ℕ) (key : Node) (old new : TreeFormat) : Type 0 whe
   pub entry : IsEntry (slice_get (pairs_in (tree_of old.top.now)) i) key (tree_of new.node.now)
   pub moves : Moves i old new
 
+-- the next item of the innermost list, if there is one; none if a map has another key there
+abbrev pub next_item_of : TreeFormat → Option (Option Tree)
+next_item_of f = first_item (drop (count_of f) (listed (tree_of f.top.now)))
+
 -- no item of the innermost list is left
 abbrev pub HasNoItem : TreeFormat → Type 0
 HasNoItem old = first_item (drop (count_of old) (listed (tree_of old.top.now))) ≡ Some None
@@ -171,6 +175,10 @@ BeginsStruct old new = (kind : FrameKind) × Begins old kind new × (next_struct
 abbrev pub Empties : TreeFormat → TreeFormat → Type 0
 Empties old new = (tree_at old ≡ leaf Null) × (new ≡ record old { part = p.NoValue })
 
+-- `take_none` found a value: it is next as it is, or no value is in place of an empty one
+abbrev pub LooksInside : TreeFormat → TreeFormat → Type 0
+LooksInside old looked = ((looked ≡ old) × IsFull (tree_at old)) ⊎ Empties old looked
+
 -- the next item of the innermost list is next
 pub record Comes (old new : TreeFormat) : Type 0 where
   pub item : first_item (drop (count_of old) (listed (tree_of old.top.now))) ≡ Some (Some (tree_of new.node.now))
@@ -184,17 +192,18 @@ Stays old new = (new ≡ old) ⊎ Empties old new ⊎ Comes old new
 abbrev pub BeginsAfterLook : TreeFormat → Bool → TreeFormat → Type 0
 BeginsAfterLook old is_sequence new = Reads old (struct_begins is_sequence) new ⊎ ((looked : TreeFormat) × Stays old looked × Reads looked (struct_begins is_sequence) new)
 
--- the format went to the entry at an index of the innermost map: its key was looked up among the names, and its value is next
-pub record EntryIs (i : ℕ) (names : List Name) (at : ℕ) (old new : TreeFormat) : Type 0 where
+-- the format went to the entry at an index of the innermost map: its key was looked up among the names, and this part of its value is next
+pub record EntryIs (i : ℕ) (names : List Name) (at : ℕ) (q : Part) (old new : TreeFormat) : Type 0 where
+  pub part : new.part ≡ q
   pub key : LooksUp (key_tree (slice_get (pairs_in (tree_of old.top.now)) i)) names at
   pub value : option_map (λ e. e.1) (slice_get (pairs_in (tree_of old.top.now)) i) ≡ Some (tree_of new.node.now)
   pub moves : Moves i old new
 
 -- The next key was looked up, or the next item is a field by its position. A format that looks for the first error may go to another entry.
 abbrev pub PicksAt : Option FrameKind → TreeFormat → List Name → ℕ → TreeFormat → Type 0
-PicksAt (Some k.Fields) old names at new = (i : ℕ) × EntryIs i names at old new × (IsPlain old → i ≡ count_of old)
+PicksAt (Some k.Fields) old names at new = (i : ℕ) × EntryIs i names at p.Value old new × (IsPlain old → i ≡ count_of old)
 PicksAt (Some k.Places) old names at new = Comes old new
-PicksAt _ old names at new = EntryIs (count_of old) names at old new
+PicksAt _ old names at new = EntryIs (count_of old) names at p.Held old new
 
 -- a key was picked, or the text that was next was looked up
 abbrev pub Picks : TreeFormat → Bool → List Name → ℕ → TreeFormat → Type 0

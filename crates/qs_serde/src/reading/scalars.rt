@@ -2,7 +2,7 @@
 
 #![tactic(auto, using(crate::proofs::Errors::step_errors))]
 
-ghost use Rattle.std.specs.Prelude.{◌≡◌, Bool, true, map, slice_range, IfErr, IfOk, IfSome, OnOk, Some, string_bytes};
+ghost use Rattle.std.specs.Prelude.{◌≡◌, Bool, true, map, slice_range, IfErr, IfOk, IfSome, MatchOption, OnOk, Some, string_bytes};
 ghost use Rattle.std.specs.Str.{is_utf8};
 ghost use Rattle.qs_spec.specs.Data as d;
 ghost use Rattle.qs_spec.specs.Node.{item_text, last_item};
@@ -11,6 +11,8 @@ ghost use Rattle.qs_data.specs.data.Views.{data_of};
 ghost use Rattle.qs_data.specs.shape.Views.{shape_of};
 ghost use Rattle.qs_tree.specs.tree.Views.{items_from, tree_of};
 ghost use Rattle.qs_data.specs.read.Reads.{reads};
+ghost use Rattle.qs_data.specs.read.internal.ReadError.{ReadGives};
+ghost use Rattle.qs_data.specs.read.TreeText.{is_text};
 ghost use Rattle.qs_data.specs.read.internal.GivenText.{given_text};
 ghost use Rattle.qs_serde.specs.Errors.{FailsOn, IsStepError};
 ghost use Rattle.qs_serde.specs.Nodes.{node_tree};
@@ -32,7 +34,7 @@ impl<'t, 'qs> TreeFormat<'t, 'qs> {
     #[inline(never)]
     pub(crate) fn read_key(&self, node: Node<'t, 'qs>, shape: &Shape) -> Result<Data>
         ensures errors { FailsOn (node_tree node.entry) result }
-        ensures data { IfOk result (λ v. reads self.now.reader.reject_duplicates (shape_of shape.now) (node_tree node.entry) ≡ Some (data_of v)) }
+        ensures exact { ReadGives data_of (is_text (node_tree node.entry)) result (reads self.now.reader.reject_duplicates (shape_of shape.now) (node_tree node.entry)) }
     {
         match node.read(self.reader, shape) {
             Ok(data) => Ok(data),
@@ -48,6 +50,20 @@ impl<'t, 'qs> TreeFormat<'t, 'qs> {
     {
         let node = self.take();
         self.read_key(node, shape)
+    }
+
+    /// Reads a node as a truth value.
+    #[inline(always)]
+    pub(crate) fn truth(&self, node: Node<'t, 'qs>) -> Result<Data>
+        ensures { ReadGives data_of (is_text (node_tree node.entry)) result (reads self.now.reader.reject_duplicates s.Shape.boolean (node_tree node.entry)) }
+    {
+        match node {
+            Node::Value(value) => ReadError::of_result(
+                self.reader.alloc,
+                self.reader.boolean(value),
+            ),
+            _ => self.read_key(node, &Shape::Bool),
+        }
     }
 
     /// Reads what is next as a text.
@@ -81,6 +97,16 @@ impl<'t, 'qs> TreeFormat<'t, 'qs> {
         } else {
             Err(self.no_value())
         }
+    }
+}
+
+/// Returns the truth value that this data is, if it is one.
+pub(crate) fn as_truth(data: Data) -> Option<bool>
+    ensures { MatchOption result ((b : Bool) → ¬ (data_of «data» ≡ d.boolean b)) (λ b. data_of «data» ≡ d.boolean b) }
+{
+    match data {
+        Data::Bool(value) => Some(value),
+        _ => None,
     }
 }
 

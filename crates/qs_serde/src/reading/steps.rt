@@ -1,21 +1,24 @@
 //! The steps of reading that serde calls.
 
-ghost use Rattle.std.specs.Prelude.{◌≡◌, ⊤, true, false, None, slice_range, string_bytes, IfErr, IfOk, IsOk, OnOk, IsTrue, MatchBool, MatchOption};
+ghost use Rattle.std.specs.Prelude.{◌≡◌, ◌↔◌, ⊤, true, false, None, IsSome, slice_range, string_bytes, IfErr, IfOk, IsOk, OnOk, IsTrue, MatchBool, MatchOption};
 ghost use Rattle.qs_spec.specs.Leaf.Leaf.{NoValue};
-ghost use Rattle.qs_spec.specs.Tree.Tree.{leaf};
+ghost use Rattle.qs_spec.specs.Tree.Tree.{leaf, uninitialized};
 ghost use Rattle.serde.specs.Event.{boolean, signed, unsigned, single, double, character, text, octets, key_begins, map_begins, map_ends, nothing, seq_begins, seq_ends};
 ghost use Rattle.qs_tree.specs.tree.Views.{tree_of};
-ghost use Rattle.qs_data.specs.read.internal.ReadError.{ReadRejects};
+ghost use Rattle.qs_data.specs.read.internal.ReadError.{ReadGives, ReadRejects};
+ghost use Rattle.qs_data.specs.read.Reads.{reads};
+ghost use Rattle.qs_spec.specs.Data as d;
+ghost use Rattle.qs_spec.specs.Shape as s;
 ghost use Rattle.qs_data.specs.read.TreeText.{is_text};
 ghost use Rattle.qs_serde.specs.Errors.{FailsOn, IsStepError};
 ghost use Rattle.qs_serde.specs.Places.{tree_at};
-ghost use Rattle.qs_serde.specs.Steps.{BeginsAfterLook, BeginsStruct, HasNoEntry, HasNoItem, ComesBack, IsMark, Picks, Reads, Stays, Takes, next_entries, next_items, next_struct};
+ghost use Rattle.qs_serde.specs.Steps.{BeginsAfterLook, BeginsStruct, Comes, Leaves, LooksInside, HasNoEntry, HasNoItem, next_item_of, ComesBack, IsMark, Picks, Reads, Stays, Takes, next_entries, next_items, next_struct};
 
 use super::format::{Asked, Mark, TreeFormat};
 use super::frame::FrameKind;
 use super::names::find_node;
 use super::node::{Node, Part};
-use super::scalars::{borrowed_text, test_utf8};
+use super::scalars::{as_truth, borrowed_text, test_utf8};
 use super::{ReadError, Result};
 use qs_data::{Data, Shape};
 use qs_tree::ParsedValue;
@@ -34,20 +37,17 @@ impl<'t, 'qs> Format for TreeFormat<'t, 'qs> {
 
     ghost stays = { Stays };
 
+    #[tactic(auto, using(crate::proofs::Errors::step_errors, crate::proofs::Borrowed::truth_only))]
     fn bool(&mut self, _input: &[u8]) -> Result<bool>
         ensures step { IfOk result (λ v. Reads self.old (boolean v) self.new) }
+        ensures exact { ReadGives d.boolean (is_text (tree_at self.old)) result (reads self.old.reader.reject_duplicates s.Shape.boolean (tree_at self.old)) }
         ensures errors { FailsOn (tree_at self.old) result }
     {
-        let read = match self.take() {
-            Node::Value(value) => ReadError::of_result(
-                self.reader.alloc,
-                self.reader.boolean(value),
-            ),
-            node => self.read_key(node, &Shape::Bool),
-        };
-        match read? {
-            Data::Bool(value) => Ok(value),
-            _ => Err(self.no_value()),
+        let node = self.take();
+        let read = self.truth(node)?;
+        match as_truth(read) {
+            Some(value) => Ok(value),
+            None => Err(self.no_value()),
         }
     }
 
@@ -197,8 +197,9 @@ impl<'t, 'qs> Format for TreeFormat<'t, 'qs> {
     #[tactic(auto, using(crate::proofs::Errors::step_errors), unfolding(qs_spec::specs::internal::ReadFunction::reads))]
     fn take_none(&mut self, _input: &[u8]) -> Result<bool>
         ensures step { IfOk result (λ b. MatchBool b (Reads self.old nothing self.new) (Stays self.old self.new)) }
-        ensures none { IfOk result (λ b. IsTrue b → tree_at self.old ≡ leaf NoValue) }
-        ensures errors { IfErr result (IsStepError true) }
+        ensures none { IfOk result (λ b. IsTrue b ↔ (tree_at self.old ≡ leaf NoValue)) }
+        ensures some { IfOk result (λ b. MatchBool b (self.new ≡ self.old) (LooksInside self.old self.new)) }
+        ensures errors { IfErr result (λ e. IsStepError true e × ((self.new ≡ self.old) × (tree_at self.old ≡ uninitialized))) }
     {
         match self.part {
             Part::NoValue => Ok(true),
@@ -228,8 +229,8 @@ impl<'t, 'qs> Format for TreeFormat<'t, 'qs> {
     #[inline(always)]
     fn next_item(&mut self, _input: &[u8]) -> Result<bool>
         ensures step { IfOk result (λ b. MatchBool b (Stays self.old self.new) (Reads self.old seq_ends self.new)) }
-        ensures end { IfOk result (λ b. MatchBool b ⊤ (HasNoItem self.old)) }
-        ensures errors { IfErr result (IsStepError true) }
+        ensures exact { IfOk result (λ b. MatchBool b (Comes self.old self.new) (HasNoItem self.old × Leaves self.old self.new)) }
+        ensures errors { IfErr result (λ e. IsStepError true e × (IsSome self.old.frame → ReadRejects true e (next_item_of self.old))) }
     {
         let Some(frame) = self.frame else {
             return Err(self.no_value());

@@ -5,6 +5,8 @@ use Rattle.std.specs.Borrow.{Bor}
 use Rattle.qs_data.proofs.Common.{cases_Bool, false≢true, nat_tests}
 use Rattle.std.specs.Str.{bytes_eq, is_utf8}
 use Rattle.std.proofs.lemmas.Option.{same_Some}
+use Rattle.qs_serde.proofs.Numbers.{signed_of, unsigned_of}
+use Rattle.std.proofs.lemmas.Int.{ints}
 use Rattle.qs_spec.proofs.VariantNames.{bytes_equal}
 use Rattle.qs_data.proofs.lemmas.read.Lookups.{bytes_eq_same}
 use Rattle.serde.specs.Names.{Finds, StandsFor}
@@ -25,7 +27,7 @@ use Rattle.qs_data.proofs.lemmas.read.Items.{first_end, first_some}
 use Rattle.qs_serde.specs.Nodes.{key_tree, listed, pairs_in}
 use Rattle.qs_serde.specs.Places.{count_of, innermost, opens, part_tree, part_view, passed, tree_at}
 use Rattle.qs_serde.specs.Runs.{AreNamed, IsLevel, IsReady, ItemsRun, MembersRun, PartsRun, Run, collected, field_at, read_of, slot}
-use Rattle.qs_serde.specs.Runs.Run.{boolean_run, unsigned_run, character_run, text_run, octets_run, newtype_run, none_run, some_run, sequence_run, struct_run, tuple_run}
+use Rattle.qs_serde.specs.Runs.Run.{boolean_run, signed_run, unsigned_run, character_run, text_run, octets_run, newtype_run, none_run, some_run, sequence_run, struct_run, tuple_run}
 use Rattle.qs_serde.specs.Runs.ItemsRun.{no_item, one_item}
 use Rattle.qs_serde.specs.Runs.MembersRun.{no_member, one_member, other_member}
 use Rattle.qs_serde.specs.Runs.PartsRun.{no_part, one_part}
@@ -206,9 +208,6 @@ unfolding reads
 some_empty rd b old looked new x (null, same) given =
     let got = subst (λ f. Read rd b f x new) same given in
     (ap (λ t. read_option (reads rd b) t) null ∙ ap (option_map d.some) got.0, record { opened = got.1.opened; open_as = got.1.open_as; reader = got.1.reader; plain = got.1.plain })
-
-is_plain : (m : ℕ) → m < 2 ^ 64 → 2 ^ 64 ≤ m → ⊥
-is_plain m h g = omega (h, g, arith)
 
 -- the entries from an index on
 abbrev after : ℕ → Entries → Entries
@@ -472,8 +471,12 @@ mutual
 
   pub run_reads : (rd : Bool) (a : s.Shape) (old new : TreeFormat) (x : d.Data) → Run a old x new → old.reader.reject_duplicates ≡ rd → IsPlain old → IsReady old → Read rd a old x new
   run_reads rd a old new x (boolean_run h) e plain ready = (subst (λ q. reads q s.Shape.boolean (tree_at old) ≡ Some x) e h.1, subst (λ f. IsLevel old f) (sym h.0) (taken old _ refl refl refl refl refl))
-  run_reads rd a old new x (unsigned_run h m) e plain ready = (
-    elim (h.1 plain) [ inl is ↦ subst (λ q. reads q (s.Shape.unsigned 64) (tree_at old) ≡ Some x) e is | inr big ↦ absurd (is_plain _ m big) ],
+  run_reads rd a old new x (unsigned_run {bits = bits} {m = m} h lt) e plain ready = (
+    unsigned_of rd 128 bits (tree_at old) m (λ _. omega (arith, lt)) (subst (λ q. reads q (s.Shape.unsigned 128) (tree_at old) ≡ Some x) e (h.1 plain)),
+    subst (λ f. IsLevel old f) (sym h.0) (taken old _ refl refl refl refl refl),
+  )
+  run_reads rd a old new x (signed_run {bits = bits} {z = z} h low high) e plain ready = (
+    signed_of rd 128 bits (tree_at old) z (λ n is _. omega (arith, ints)) (λ n is _. omega (arith, ints)) (subst (λ q. reads q (s.Shape.signed 128) (tree_at old) ≡ Some x) e (h.1 plain)),
     subst (λ f. IsLevel old f) (sym h.0) (taken old _ refl refl refl refl refl),
   )
   run_reads rd a old new x (character_run h) e plain ready = (subst (λ q. reads q s.Shape.character (tree_at old) ≡ Some x) e h.1, subst (λ f. IsLevel old f) (sym h.0) (taken old _ refl refl refl refl refl))

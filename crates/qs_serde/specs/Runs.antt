@@ -1,6 +1,6 @@
 -- The steps by which serde's impls and derives read a value, and what they gave. Each constructor is a shape, with what the public clauses of
 -- its steps say.
-use Rattle.std.specs.Prelude.{◌≡◌, ◌⊎◌, ◌↔◌, ◌<◌, ◌≤◌, ◌==◌, ◌^◌, ⊤, ℕ, zero, suc, Bool, true, false, cond, List, [], ◌∷◌, length, Option, Some, None, option_and_then, IsSome}
+use Rattle.std.specs.Prelude.{◌≡◌, ◌⊎◌, ◌↔◌, ◌<◌, ◌≤◌, ◌==◌, ◌^◌, ◌-◌, ◌≤ℤ◌, ⊤, ℤ, pos, neg_ℤ, ℕ, zero, suc, Bool, true, false, cond, List, [], ◌∷◌, length, Option, Some, None, option_and_then, IsSome}
 use Rattle.qs_spec.specs.Leaf.Leaf.{NoValue, Null}
 use Rattle.qs_spec.specs.Tree.Tree.{leaf}
 use Rattle.qs_spec.specs.internal.ReadFunction.{with_field}
@@ -56,7 +56,8 @@ collected k (s.one_field name a optional fs) ms = option_and_then (λ x. with_fi
 mutual
   pub data Run : s.Shape → TreeFormat → d.Data → TreeFormat → Type 0 where
     boolean_run : {old new : TreeFormat} {b : Bool} → Reads old (e.boolean b) new → Run s.Shape.boolean old (d.boolean b) new
-    unsigned_run : {old new : TreeFormat} {m : ℕ} → Reads old (e.unsigned m) new → m < 2 ^ 64 → Run (s.Shape.unsigned 64) old (d.unsigned m) new
+    unsigned_run : {old new : TreeFormat} {bits m : ℕ} → Reads old (e.unsigned m) new → m < 2 ^ bits → Run (s.Shape.unsigned bits) old (d.unsigned m) new
+    signed_run : {old new : TreeFormat} {bits : ℕ} {z : ℤ} → Reads old (e.signed z) new → neg_ℤ (pos (2 ^ (bits - 1))) ≤ℤ z → z ≤ℤ pos (2 ^ (bits - 1) - 1) → Run (s.Shape.signed bits) old (d.signed z) new
     character_run : {old new : TreeFormat} {c : ℕ} → Reads old (e.character c) new → Run s.Shape.character old (d.character c) new
     text_run : {old new : TreeFormat} {t : List ℕ} → Reads old (e.text t) new → Run s.Shape.text old (d.text t) new
     octets_run : {old new : TreeFormat} {t : List ℕ} → Reads old (e.octets t) new → Run s.Shape.bytes old (d.bytes t) new

@@ -1,5 +1,7 @@
 -- What each step of the format reads, and where the format is then.
-use Rattle.std.specs.Prelude.{◌≡◌, ◌⊎◌, ◌↔◌, ℕ, suc, pos, negsuc, ◌<ℤ◌, ◌^◌, ◌≤◌, ◌<◌, ⊤, Bool, true, false, List, length, take, drop, slice_get, Option, Some, None, option_map, option_and_then, IsSome, cond}
+use Rattle.std.specs.Prelude.{◌≡◌, ◌⊎◌, ◌↔◌, ℕ, suc, ◌<◌, ⊤, Bool, true, false, List, length, take, drop, slice_get, Option, Some, None, option_map, option_and_then, IsSome, Result, Ok, Err, cond}
+use Rattle.std.specs.Float.{Float, Format, binary32, binary64}
+use Rattle.std.specs.Float.Parse.{parse_float}
 use Rattle.qs_spec.specs.Leaf.Leaf.{NoValue, Null, Text}
 use Rattle.qs_spec.specs.Tree.{Tree, Entries}
 use Rattle.qs_spec.specs.Tree.Tree.{leaf, sequence, mapping, uninitialized}
@@ -10,6 +12,9 @@ use Rattle.qs_tree.specs.tree.Views.{tree_of, entry_list}
 use Rattle.qs_data.specs.read.Entries.{node_entries}
 use Rattle.qs_data.specs.read.Items.{first_item}
 use Rattle.qs_data.specs.read.Reads.{reads}
+use Rattle.qs_data.specs.read.TreeText.{is_text}
+use Rattle.qs_data.specs.read.internal.ReadError.{ReadGives, ReadIsCustom, ReadRejects}
+use Rattle.qs_data.specs.declared.read.error.ReadError.{ReadError}
 use Rattle.serde.specs.Event.{Event, boolean, signed, unsigned, single, double, character, text, octets, nothing, seq_begins, seq_ends, map_begins, map_ends, key_begins, struct_begins}
 use Rattle.serde.specs.declared.name.Name.{Name}
 use Rattle.qs_serde.specs.Nodes.{IsEntry, key_tree, listed, pairs_in}
@@ -51,9 +56,26 @@ Notes old new = new ≡ record old { part = part_after old.part; asked = new.ask
 abbrev pub Is : TreeFormat → s.Shape → d.Data → Type 0
 Is old shape datum = reads old.reader.reject_duplicates shape (tree_at old) ≡ Some datum
 
--- what was next has a text
-abbrev pub HasText : TreeFormat → Type 0
-HasText old = (t : List ℕ) × Is old s.Shape.text (d.text t)
+-- what a step returns that reads what was next by a shape
+abbrev pub Returns : {X : Type 0} → (X → d.Data) → TreeFormat → s.Shape → Result X ReadError → Type 0
+Returns make old shape result = ReadGives make (is_text (tree_at old)) result (reads old.reader.reject_duplicates shape (tree_at old))
+
+-- the text of what was next, and the float that it writes
+abbrev pub text_in : d.Data → Option (List ℕ)
+text_in (d.text t) = Some t
+text_in _ = None
+
+abbrev pub next_text : TreeFormat → Option (List ℕ)
+next_text old = option_and_then text_in (reads old.reader.reject_duplicates s.Shape.text (tree_at old))
+
+abbrev pub next_float : Format → TreeFormat → Option Float
+next_float format old = option_and_then (parse_float format) (next_text old)
+
+-- What a step returns that parses the text of what was next by a type's `from_str`.
+abbrev pub ReturnsParsed : {T E : Type 0} → (List ℕ → Result T E → Type 0) → TreeFormat → Result T ReadError → Type 0
+ReturnsParsed from_str old (Ok v) = (t : List ℕ) × (next_text old ≡ Some t) × from_str t (Ok v)
+ReturnsParsed {E = E} from_str old (Err e) =
+    ReadRejects (is_text (tree_at old)) e (next_text old) ⊎ (ReadIsCustom e × ((t : List ℕ) (cause : E) × (next_text old ≡ Some t) × from_str t (Err cause)))
 
 abbrev pub IsHeld : Part → Type 0
 IsHeld p.Held = ⊤
@@ -152,10 +174,10 @@ MayEndEarly _ = ⊤
 -- what a step gave
 abbrev pub Reads : TreeFormat → Event → TreeFormat → Type 0
 Reads old (boolean b) new = Takes old new × Is old s.Shape.boolean (d.boolean b)
-Reads old (signed z) new = Notes old new × (IsPlain old → Is old (s.Shape.signed 64) (d.signed z) ⊎ ((pos 9223372036854775807 <ℤ z) ⊎ (z <ℤ negsuc 9223372036854775807)))
-Reads old (unsigned m) new = Notes old new × (IsPlain old → Is old (s.Shape.unsigned 64) (d.unsigned m) ⊎ (2 ^ 64 ≤ m))
-Reads old (single x) new = Takes old new × HasText old
-Reads old (double x) new = Takes old new × HasText old
+Reads old (signed z) new = Notes old new × (IsPlain old → Is old (s.Shape.signed 128) (d.signed z))
+Reads old (unsigned m) new = Notes old new × (IsPlain old → Is old (s.Shape.unsigned 128) (d.unsigned m))
+Reads old (single x) new = Takes old new × (next_float binary32 old ≡ Some x)
+Reads old (double x) new = Takes old new × (next_float binary64 old ≡ Some x)
 Reads old (character c) new = Takes old new × Is old s.Shape.character (d.character c)
 Reads old (text t) new = Takes old new × Is old s.Shape.text (d.text t)
 Reads old (octets t) new = Takes old new × Is old s.Shape.bytes (d.bytes t)

@@ -2,7 +2,7 @@
 
 #![tactic(auto, using(crate::proofs::Errors::step_errors))]
 
-ghost use Rattle.std.specs.Prelude.{◌≡◌, Bool, true, map, slice_range, IfErr, IfOk, IfSome, MatchOption, OnOk, Some, string_bytes};
+ghost use Rattle.std.specs.Prelude.{◌≡◌, Bool, true, map, slice_range, IfErr, IfOk, IfSome, OnOk, Some, string_bytes};
 ghost use Rattle.std.specs.Str.{is_utf8};
 ghost use Rattle.qs_spec.specs.Data as d;
 ghost use Rattle.qs_spec.specs.Node.{item_text, last_item};
@@ -17,8 +17,9 @@ ghost use Rattle.qs_data.specs.read.internal.GivenText.{given_text};
 ghost use Rattle.qs_serde.specs.Errors.{FailsOn, IsStepError};
 ghost use Rattle.qs_serde.specs.Nodes.{node_tree};
 ghost use Rattle.qs_serde.specs.Places.{tree_at};
-ghost use Rattle.qs_serde.specs.Steps.{Is, Takes};
+ghost use Rattle.qs_serde.specs.Steps.{Returns, Takes};
 
+use super::data::as_text;
 use super::format::TreeFormat;
 use super::node::Node;
 use super::{ReadError, Result};
@@ -45,16 +46,16 @@ impl<'t, 'qs> TreeFormat<'t, 'qs> {
     /// Reads what is next by a shape.
     pub(crate) fn by_shape(&mut self, shape: &Shape) -> Result<Data>
         ensures takes { Takes self.old self.new }
-        ensures data { IfOk result (λ v. Is self.old (shape_of shape.now) (data_of v)) }
+        ensures exact { Returns data_of self.old (shape_of shape.now) result }
         ensures errors { FailsOn (tree_at self.old) result }
     {
         let node = self.take();
         self.read_key(node, shape)
     }
 
-    /// Reads a node as a truth value.
+    /// Reads a node as a boolean.
     #[inline(always)]
-    pub(crate) fn truth(&self, node: Node<'t, 'qs>) -> Result<Data>
+    pub(crate) fn boolean(&self, node: Node<'t, 'qs>) -> Result<Data>
         ensures { ReadGives data_of (is_text (node_tree node.entry)) result (reads self.now.reader.reject_duplicates s.Shape.boolean (node_tree node.entry)) }
     {
         match node {
@@ -67,19 +68,20 @@ impl<'t, 'qs> TreeFormat<'t, 'qs> {
     }
 
     /// Reads what is next as a text.
-    #[tactic(auto, using(crate::proofs::Errors::step_errors, crate::proofs::Borrowed::text_read))]
+    #[tactic(auto, using(crate::proofs::Errors::step_errors, crate::proofs::Borrowed::text_read, crate::proofs::Kinds::text_only))]
     pub(crate) fn text(&mut self) -> Result<String>
         ensures takes { Takes self.old self.new }
-        ensures text { IfOk result (λ v. Is self.old s.Shape.text (d.text (string_bytes v))) }
+        ensures exact { Returns (λ v. d.text (string_bytes v)) self.old s.Shape.text result }
         ensures errors { FailsOn (tree_at self.old) result }
     {
         let node = self.take();
         if let Some(text) = plain_text(node) {
             return Ok(String::from_str(self.reader.alloc, text)?);
         }
-        match self.read_key(node, &Shape::Text)? {
-            Data::Text(text) => Ok(text),
-            _ => Err(self.no_value()),
+        let data = self.read_key(node, &Shape::Text)?;
+        match as_text(data) {
+            Some(text) => Ok(text),
+            None => Err(self.no_value()),
         }
     }
 
@@ -97,16 +99,6 @@ impl<'t, 'qs> TreeFormat<'t, 'qs> {
         } else {
             Err(self.no_value())
         }
-    }
-}
-
-/// Returns the truth value that this data is, if it is one.
-pub(crate) fn as_truth(data: Data) -> Option<bool>
-    ensures { MatchOption result ((b : Bool) → ¬ (data_of «data» ≡ d.boolean b)) (λ b. data_of «data» ≡ d.boolean b) }
-{
-    match data {
-        Data::Bool(value) => Some(value),
-        _ => None,
     }
 }
 

@@ -13,6 +13,7 @@ pub mod Texts
 pub mod Sends
 pub mod Placed
 pub mod Halts
+pub mod Failed
 pub mod Logged
 pub mod Noted
 pub mod Follows

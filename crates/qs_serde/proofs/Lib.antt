@@ -1,5 +1,8 @@
 pub mod Names
 pub mod Places
+pub mod RunLevels
+pub mod RunFields
+pub mod RunMaps
 pub mod Runs
 pub mod Positions
 pub mod Kept

@@ -12,7 +12,8 @@ use Rattle.qs_spec.specs.Shape as s
 use Rattle.qs_tree.specs.tree.Views.{tree_of}
 use Rattle.serde.specs.Event as e
 use Rattle.qs_serde.specs.Places.{count_of, opens, tree_at}
-use Rattle.qs_serde.specs.Steps.{Begins, Comes, EntryIs, HasNoEntry, HasNoItem, Leaves, LooksInside, Reads, Takes, is_held, next_struct}
+use Rattle.qs_serde.specs.Steps.{Begins, BeginsMap, Comes, EntryComes, EntryIs, HasNoEntry, HasNoItem, Leaves, LooksInside, Reads, Takes, is_held, next_struct}
+use Rattle.qs_serde.specs.declared.reading.node.Node.{Node}
 use Rattle.qs_serde.specs.declared.reading.node.Part.TheVariants as p
 use Rattle.qs_serde.specs.declared.reading.format.TreeFormat.{TreeFormat}
 
@@ -53,6 +54,14 @@ abbrev pub collected : ℕ → s.Fields → List (ℕ × d.Data) → Option (Lis
 collected k s.no_fields ms = Some []
 collected k (s.one_field name a optional fs) ms = option_and_then (λ x. with_field name x (collected (suc k) fs ms)) (slot optional (s.is_option a) (read_of k ms))
 
+-- the step by which a map's key is read, and what it gave
+pub data KeyRun : s.KeyShape → TreeFormat → d.Data → TreeFormat → Type 0 where
+  boolean_key : {old new : TreeFormat} {b : Bool} → Reads old (e.boolean b) new → KeyRun s.KeyShape.boolean old (d.boolean b) new
+  unsigned_key : {old new : TreeFormat} {bits m : ℕ} → Reads old (e.unsigned m) new → m < 2 ^ bits → KeyRun (s.KeyShape.unsigned bits) old (d.unsigned m) new
+  signed_key : {old new : TreeFormat} {bits : ℕ} {z : ℤ} → Reads old (e.signed z) new → neg_ℤ (pos (2 ^ (bits - 1))) ≤ℤ z → z ≤ℤ pos (2 ^ (bits - 1) - 1) → KeyRun (s.KeyShape.signed bits) old (d.signed z) new
+  character_key : {old new : TreeFormat} {c : ℕ} → Reads old (e.character c) new → KeyRun s.KeyShape.character old (d.character c) new
+  text_key : {old new : TreeFormat} {t : List ℕ} → Reads old (e.text t) new → KeyRun s.KeyShape.text old (d.text t) new
+
 mutual
   pub data Run : s.Shape → TreeFormat → d.Data → TreeFormat → Type 0 where
     boolean_run : {old new : TreeFormat} {b : Bool} → Reads old (e.boolean b) new → Run s.Shape.boolean old (d.boolean b) new
@@ -66,9 +75,10 @@ mutual
     some_run : {a : s.Shape} {old looked new : TreeFormat} {x : d.Data} → LooksInside old looked → Run a looked x new → Run (s.Shape.option a) old (d.some x) new
     sequence_run : {a : s.Shape} {old first new : TreeFormat} {xs : List d.Data} → Reads old (e.seq_begins None) first → ItemsRun a first xs new → Run (s.Shape.sequence a) old (d.sequence (d.values_of xs)) new
     tuple_run : {parts : s.Shapes} {old first new : TreeFormat} {xs : List d.Data} → Reads old (e.seq_begins None) first → PartsRun parts first xs new → Run (s.Shape.tuple parts) old (d.tuple (d.values_of xs)) new
-    struct_run : {names : List Name} {fs : s.Fields} {old first new : TreeFormat} {ms : List (ℕ × d.Data)} {named : List d.Named}
-        → Begins old k.Fields first → next_struct old ≡ Some k.Fields → is_held old.part ≡ false → AreNamed names fs → s.field_names_differ fs ≡ true → MembersRun names fs first ms new → collected 0 fs ms ≡ Some named
-        → Run (s.Shape.struct s.UnknownKeys.ignored fs) old (d.struct (d.members_of named)) new
+    mapping_run : {key : s.KeyShape} {a : s.Shape} {old first new : TreeFormat} {ps : List (d.Data × d.Data)} → BeginsMap old first → PairsRun key a first ps new → Run (s.Shape.mapping key a) old (d.mapping (d.pairs_of ps)) new
+    struct_run : {unknown : s.UnknownKeys} {names : List Name} {fs : s.Fields} {old first new : TreeFormat} {ms : List (ℕ × d.Data)} {named : List d.Named}
+        → Begins old k.Fields first → next_struct old ≡ Some k.Fields → is_held old.part ≡ false → AreNamed names fs → s.field_names_differ fs ≡ true → MembersRun unknown names fs first ms new
+        → collected 0 fs ms ≡ Some named → Run (s.Shape.struct unknown fs) old (d.struct (d.members_of named)) new
 
   -- each item comes and is read, until none is left
   pub data ItemsRun : s.Shape → TreeFormat → List d.Data → TreeFormat → Type 0 where
@@ -80,11 +90,17 @@ mutual
     no_part : {old new : TreeFormat} → Leaves old new → PartsRun s.no_shapes old [] new
     one_part : {a : s.Shape} {parts : s.Shapes} {old come read new : TreeFormat} {x : d.Data} {xs : List d.Data} → Comes old come → Run a come x read → PartsRun parts read xs new → PartsRun (s.one_shape a parts) old (x ∷ xs) new
 
-  -- each entry comes: a field is read, and what is under another key is passed over, until none is left
-  pub data MembersRun : List Name → s.Fields → TreeFormat → List (ℕ × d.Data) → TreeFormat → Type 0 where
-    no_member : {names : List Name} {fs : s.Fields} {old new : TreeFormat} → HasNoEntry old → Leaves old new → MembersRun names fs old [] new
-    one_member : {names : List Name} {fs : s.Fields} {old come read new : TreeFormat} {at : ℕ} {f : s.Field} {x : d.Data} {ms : List (ℕ × d.Data)}
-        → EntryIs (count_of old) names at p.Value old come → field_at fs at ≡ Some f → Run f.1 come x read → MembersRun names fs read ms new
-        → MembersRun names fs old ((at, x) ∷ ms) new
-    other_member : {names : List Name} {fs : s.Fields} {old come read new : TreeFormat} {at : ℕ} {ms : List (ℕ × d.Data)}
-        → EntryIs (count_of old) names at p.Value old come → length names ≤ at → Takes come read → MembersRun names fs read ms new → MembersRun names fs old ms new
+  -- each entry of a map comes, its key is read and then its value, until none is left
+  pub data PairsRun : s.KeyShape → s.Shape → TreeFormat → List (d.Data × d.Data) → TreeFormat → Type 0 where
+    no_pair : {key : s.KeyShape} {a : s.Shape} {old new : TreeFormat} → HasNoEntry old → Leaves old new → PairsRun key a old [] new
+    one_pair : {key : s.KeyShape} {a : s.Shape} {old come next read new : TreeFormat} {node : Node} {k x : d.Data} {ps : List (d.Data × d.Data)}
+        → EntryComes (count_of old) node old come → come.part ≡ p.Key → KeyRun key come k next → Run a next x read → PairsRun key a read ps new → PairsRun key a old ((k, x) ∷ ps) new
+
+  -- Each entry comes: a field is read, and what is under another key is passed over, if it may be, until none is left.
+  pub data MembersRun : s.UnknownKeys → List Name → s.Fields → TreeFormat → List (ℕ × d.Data) → TreeFormat → Type 0 where
+    no_member : {unknown : s.UnknownKeys} {names : List Name} {fs : s.Fields} {old new : TreeFormat} → HasNoEntry old → Leaves old new → MembersRun unknown names fs old [] new
+    one_member : {unknown : s.UnknownKeys} {names : List Name} {fs : s.Fields} {old come read new : TreeFormat} {at : ℕ} {f : s.Field} {x : d.Data} {ms : List (ℕ × d.Data)}
+        → EntryIs (count_of old) names at p.Value old come → field_at fs at ≡ Some f → Run f.1 come x read → MembersRun unknown names fs read ms new
+        → MembersRun unknown names fs old ((at, x) ∷ ms) new
+    other_member : {unknown : s.UnknownKeys} {names : List Name} {fs : s.Fields} {old come read new : TreeFormat} {at : ℕ} {ms : List (ℕ × d.Data)}
+        → s.are_ignored unknown ≡ true → EntryIs (count_of old) names at p.Value old come → length names ≤ at → Takes come read → MembersRun unknown names fs read ms new → MembersRun unknown names fs old ms new

@@ -193,6 +193,10 @@ Reads old _ new = ⊤
 abbrev pub BeginsStruct : TreeFormat → TreeFormat → Type 0
 BeginsStruct old new = (kind : FrameKind) × Begins old kind new × (next_struct old ≡ Some kind)
 
+-- a map was begun, as a list of entries
+abbrev pub BeginsMap : TreeFormat → TreeFormat → Type 0
+BeginsMap old new = Begins old k.Map new × HasParts k.Map (tree_of old.node.now) × (next_node old ≡ Some (tree_of old.node.now))
+
 -- an empty value is `Some` of what is read from no value
 abbrev pub Empties : TreeFormat → TreeFormat → Type 0
 Empties old new = (tree_at old ≡ leaf Null) × (new ≡ record old { part = p.NoValue })

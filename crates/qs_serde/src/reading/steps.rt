@@ -13,7 +13,7 @@ ghost use Rattle.qs_spec.specs.Shape as s;
 ghost use Rattle.qs_data.specs.read.TreeText.{is_text};
 ghost use Rattle.qs_serde.specs.Errors.{FailsOn, IsStepError};
 ghost use Rattle.qs_serde.specs.Places.{tree_at};
-ghost use Rattle.qs_serde.specs.Steps.{BeginsAfterLook, BeginsStruct, Comes, Leaves, LooksInside, HasNoEntry, HasNoItem, IsPlain, next_float, next_item_of, ComesBack, IsMark, Picks, Reads, Returns, Stays, Takes, next_entries, next_items, next_struct};
+ghost use Rattle.qs_serde.specs.Steps.{BeginsAfterLook, BeginsMap, BeginsStruct, Comes, Leaves, LooksInside, HasNoEntry, HasNoItem, IsPlain, next_float, next_item_of, ComesBack, IsMark, Picks, Reads, Returns, Stays, Takes, next_entries, next_items, next_struct};
 
 use super::data::{as_bool, as_bytes, as_char};
 use super::format::{Asked, Mark, TreeFormat};
@@ -248,6 +248,7 @@ impl<'t, 'qs> Format for TreeFormat<'t, 'qs> {
     #[tactic(auto, using(crate::proofs::Errors::begin_errors, crate::proofs::Places::has_map))]
     fn begin_map(&mut self, _input: &[u8]) -> Result<()>
         ensures step { OnOk result (Reads self.old (map_begins None) self.new) }
+        ensures map { OnOk result (BeginsMap self.old self.new) }
         ensures errors { IfErr result (λ e. ReadRejects true e (next_entries self.old)) }
     {
         let node = self.next_node()?;

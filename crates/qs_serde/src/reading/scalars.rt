@@ -11,7 +11,7 @@ ghost use Rattle.qs_data.specs.data.Views.{data_of};
 ghost use Rattle.qs_data.specs.shape.Views.{shape_of};
 ghost use Rattle.qs_tree.specs.tree.Views.{items_from, tree_of};
 ghost use Rattle.qs_data.specs.read.Reads.{reads};
-ghost use Rattle.qs_data.specs.read.internal.ReadError.{ReadGives};
+ghost use Rattle.qs_data.specs.read.internal.ReadError.{ReadGives, ReadIsUtf8};
 ghost use Rattle.qs_data.specs.read.TreeText.{is_text};
 ghost use Rattle.qs_data.specs.read.internal.GivenText.{given_text};
 ghost use Rattle.qs_serde.specs.Errors.{FailsOn, IsStepError};
@@ -169,9 +169,10 @@ fn borrowed_item<'t>(item: &'t ParsedValue<'_>) -> Option<&'t [u8]>
 }
 
 /// Tests whether a text is UTF-8.
-#[tactic(auto, using(qs_data::proofs::lemmas::read::Errors::utf8_tests))]
+#[tactic(auto, using(qs_data::proofs::lemmas::read::Errors::utf8_tests, qs_data::proofs::lemmas::read::ReadErrors::passed_utf8))]
 pub(crate) fn test_utf8(alloc: Global, text: &[u8]) -> Result<()>
     ensures text { OnOk result (is_utf8 text.now ≡ true) }
+    ensures utf8 { IfErr result ReadIsUtf8 }
     ensures errors { IfErr result (IsStepError (is_utf8 text.now)) }
 {
     match str::from_utf8(text) {

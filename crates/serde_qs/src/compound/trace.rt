@@ -4,7 +4,7 @@ ghost use Rattle.std.specs.Prelude.{IfOk, IsTrue};
 ghost use Rattle.qs_spec.specs.Node.{found};
 ghost use Rattle.qs_data.specs.read.Found.{IsFound};
 ghost use Rattle.qs_data.specs.read.Keys.{NumbersFit, entries_view};
-ghost use Rattle.qs_data.specs.declared.read.found.Found.TheVariants.{Several};
+ghost use Rattle.qs_data.specs.declared.read.keys.Found.TheVariants.{Several};
 
 use super::field_types::FieldType;
 use super::fields::Fields;

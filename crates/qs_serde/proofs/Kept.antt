@@ -112,7 +112,7 @@ some_bytes a b h = cc
 
 module _ (config : Config) (log : Log) (p : Position) (bytes : List ℕ) (taken : Some bytes ≡ (state_of p.writer).taken) (follows : Follows config log p) where
   shown_text : (es : List Event) (s : State) → bytes ≡ written config.is_form false s.entries → Leads config es s → (shown : List Event) × AreShown es shown × (text_of_sent config shown ≡ Some bytes)
-  shown_text es s text h = (h.0, h.1, ap (option_map (λ (t : State). written config.is_form false t.entries)) h.2 ∙ ap Some (sym text))
+  shown_text es s is h = (h.0, h.1, ap (option_map (λ (t : State). written config.is_form false t.entries)) h.2 ∙ ap Some (sym is))
 
   text_is : (s : State) → IsIn config p s → bytes ≡ written config.is_form false s.entries
   text_is s at = some_bytes bytes p.writer.stream.sink.writer.items taken ∙ (holds_in config p s at).adds.text
@@ -123,11 +123,12 @@ module _ (config : Config) (log : Log) (p : Position) (bytes : List ℕ) (taken 
       goes_on : (s : State) → IsIn config p s → ¬ (s.next ≡ Nothing)
       goes_on s (inl h) none = whole (h.next ∙ none)
       goes_on s (inr h) none = whole h.0
+
       by : (s : State) (l : Log) → bytes ≡ written config.is_form false s.entries → ¬ (s.next ≡ Nothing) → IfSome l (λ es. LeadsTo config es s)
           → IfSome l (λ es. (shown : List Event) × AreShown es shown × (text_of_sent config shown ≡ Some bytes))
-      by s None text on h = tt
-      by s (Some es) text on (inl h) = shown_text es s text h
-      by s (Some es) text on (inr h) = absurd (on h.0)
+      by s None is on h = tt
+      by s (Some es) is on (inl h) = shown_text es s is h
+      by s (Some es) is on (inr h) = absurd (on h.0)
 
   pub has_text_or_none : IsTextOrNone config log bytes
   unfolding written
@@ -135,13 +136,13 @@ module _ (config : Config) (log : Log) (p : Position) (bytes : List ℕ) (taken 
     where
       by : (s : State) (l : Log) → bytes ≡ written config.is_form false s.entries → IfSome l (λ es. LeadsTo config es s)
           → (bytes ≡ []) ⊎ IfSome l (λ es. (shown : List Event) × AreShown es shown × (text_of_sent config shown ≡ Some bytes))
-      by s None text h = inr tt
-      by s (Some es) text (inl h) = inr (shown_text es s text h)
-      by s (Some es) text (inr (none, t, h, inl same)) = inr (shown_text es t (text ∙ ap (written config.is_form false) same) h)
-      by s (Some es) text (inr (none, t, h, inr empty)) = inl (text ∙ ap (written config.is_form false) empty)
+      by s None is h = inr tt
+      by s (Some es) is (inl h) = inr (shown_text es s is h)
+      by s (Some es) is (inr (none, t, h, inl same)) = inr (shown_text es t (is ∙ ap (written config.is_form false) same) h)
+      by s (Some es) is (inr (none, t, h, inr empty)) = inl (is ∙ ap (written config.is_form false) empty)
 
   pub has_entries : IsTextOfEntries config bytes
-  has_entries = ∥∥₁_map follows (λ w. let text = text_is w.0 w.1 in (w.0.entries, text, subst (All IsVisible) (sym text) (holds_in config p w.0 w.1).adds.visible))
+  has_entries = ∥∥₁_map follows (λ w. let is = text_is w.0 w.1 in (w.0.entries, is, subst (All IsVisible) (sym is) (holds_in config p w.0 w.1).adds.visible))
 
 pub follows_start : (config k : Config) (log : Log) (p : Position) → config ≡ k → log ≡ Some [] → Stands config p start → Follows k log p
 follows_start config k log p same none h =

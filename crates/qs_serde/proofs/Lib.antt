@@ -12,5 +12,5 @@ pub mod Floats
 pub mod Walks
 pub mod Errors
 pub mod Borrowed
-pub mod Kinds
-pub mod Numbers
+pub mod OnlyKinds
+pub mod ReadNumbers

@@ -33,7 +33,7 @@ use Rattle.qs_serde.specs.declared.reading.format.TreeFormat.{TreeFormat}
 use Rattle.qs_serde.proofs.RunLevels.{AfterItem}
 
 -- the entries from an index on
-pub abbrev after : ℕ → Entries → Entries
+abbrev pub after : ℕ → Entries → Entries
 after zero es = es
 after (suc n) no_entries = no_entries
 after (suc n) (entry key m t es) = after n es
@@ -51,7 +51,7 @@ after_some (suc n) no_entries x h = absurd cc
 after_some (suc n) (entry key m t es) x h = after_some n es x h
 
 -- each tree was read
-pub abbrev AllRead : Reader → List Tree → List d.Data → Type 0
+abbrev pub AllRead : Reader → List Tree → List d.Data → Type 0
 AllRead r [] [] = Unit {0}
 AllRead r (t ∷ ts) (x ∷ xs) = (r t ≡ Some x) × AllRead r ts xs
 AllRead r _ _ = ⊥
@@ -173,11 +173,11 @@ module _ (names : List Name) (fs : s.Fields) (named : AreNamed names fs) (differ
       ]
 
 -- the entries that a struct reads
-pub abbrev entries_in : Tree → Entries
+abbrev pub entries_in : Tree → Entries
 entries_in (mapping es) = es
 entries_in _ = no_entries
 
-pub abbrev IsOfStruct : Tree → Type 0
+abbrev pub IsOfStruct : Tree → Type 0
 IsOfStruct (leaf NoValue) = Unit {0}
 IsOfStruct (leaf Null) = Unit {0}
 IsOfStruct (mapping es) = Unit {0}
@@ -222,7 +222,7 @@ struct_here allowed names places ms p.Value (mapping es) top at null held e got 
 struct_here allowed names places ms p.Value uninitialized top at null held e got ok = absurd cc
 
 -- the entries of the innermost map from here on: what was read of each field, and that their keys are allowed
-pub abbrev FieldsRead : Bool → s.UnknownKeys → s.Fields → Entries → List (ℕ × d.Data) → Type 0
+abbrev pub FieldsRead : Bool → s.UnknownKeys → s.Fields → Entries → List (ℕ × d.Data) → Type 0
 FieldsRead rd unknown fs es ms =
     ((j : ℕ) (f : s.Field) → field_at fs j ≡ Some f → AllRead (reads rd f.1) (found f.0 es) (read_of j ms)) × (keys_are_text es ≡ true) × ((keys_are_names fs es || s.are_ignored unknown) ≡ true)
 
@@ -267,18 +267,17 @@ module _ (rd : Bool) (unknown : s.UnknownKeys) (names : List Name) (fs : s.Field
           (rest.0 j f h)),
       utf8_more _ _ (looked_up names at e looks).1 rest.1,
       ignores _ _ ignored,
-      names_more _ _ _ (is_field names fs named differ (segment_text e.0.segment) at (looked_up names at e looks).0 g here) rest.2,
     )
 
 -- the same of the map that a format is in
-pub abbrev OfMap : TreeFormat → Entries → Type 0
+abbrev pub OfMap : TreeFormat → Entries → Type 0
 OfMap f es = pairs_in (tree_of f.top.now) ≡ entry_list es
 
 pub of_map_after : (old read : TreeFormat) (es : Entries) → AfterItem old read → OfMap old es → OfMap read es
 of_map_after old read es a h = ap (λ (v : Bor ParsedValue). pairs_in (tree_of v.now)) a.top ∙ h
 
 -- the entry that is due
-pub abbrev entry_due : TreeFormat → Option (ParsedSegment × Tree)
+abbrev pub entry_due : TreeFormat → Option (ParsedSegment × Tree)
 entry_due f = slice_get (pairs_in (tree_of f.top.now)) (count_of f)
 
 pub due : (old : TreeFormat) (es : Entries) → OfMap old es → slice_get (entry_list es) (count_of old) ≡ entry_due old

@@ -121,12 +121,12 @@ pub come_tree : (come : TreeFormat) → come.part ≡ p.Value → tree_at come �
 come_tree come h = ap (λ q. part_view come q) h
 
 pub record AfterItem (old read : TreeFormat) : Type 0 where
-  around : read.around.items ≡ old.around.items
-  count : count_of read ≡ count_of old + 1
-  top : read.top ≡ old.top
-  begun : IsSome read.frame
-  reader : read.reader ≡ old.reader
-  plain : read.search.in_order ≡ old.search.in_order
+  pub around : read.around.items ≡ old.around.items
+  pub count : count_of read ≡ count_of old + 1
+  pub top : read.top ≡ old.top
+  pub begun : IsSome read.frame
+  pub reader : read.reader ≡ old.reader
+  pub plain : read.search.in_order ≡ old.search.in_order
 
 pub after_item : (old come read : TreeFormat) → Moves (count_of old) old come → IsLevel come read → AfterItem old read
 after_item old come read moves l =
@@ -143,7 +143,7 @@ after_item old come read moves l =
     }
 
 -- the items from here on
-pub abbrev rest_of : TreeFormat → List (Option Tree)
+abbrev pub rest_of : TreeFormat → List (Option Tree)
 rest_of f = drop (count_of f) (listed (tree_of f.top.now))
 
 pub rest_after : (old read : TreeFormat) → AfterItem old read → drop (count_of old + 1) (listed (tree_of old.top.now)) ≡ rest_of read
@@ -153,7 +153,7 @@ pub one_more : (old come read : TreeFormat) → Comes old come → AfterItem old
 one_more old come read h a = first_some (listed (tree_of old.top.now)) (count_of old) (tree_of come.node.now) h.item ∙ ap (λ ys. Some (tree_of come.node.now) ∷ ys) (rest_after old read a)
 
 -- the list was left
-pub abbrev IsLeft : TreeFormat → TreeFormat → Type 0
+abbrev pub IsLeft : TreeFormat → TreeFormat → Type 0
 IsLeft old new = (old.around.items ≡ opens new) × (IsSome new.frame ↔ (0 < length old.around.items)) × (new.reader ≡ old.reader) × (new.search.in_order ≡ old.search.in_order)
 
 pub left : (old new : TreeFormat) → Leaves old new → IsLeft old new
@@ -167,7 +167,7 @@ left_after old read new a h = (
   h.3 ∙ a.plain,
 )
 
-pub abbrev Read : Bool → s.Shape → TreeFormat → d.Data → TreeFormat → Type 0
+abbrev pub Read : Bool → s.Shape → TreeFormat → d.Data → TreeFormat → Type 0
 Read rd a old x new = (reads rd a (tree_at old) ≡ Some x) × IsLevel old new
 
 pub begun_items : (old first : TreeFormat) → IsReady old → Begins old k.Items first → next_items old ≡ Some (listed (tree_of old.node.now)) → items (tree_at old) ≡ Some (rest_of first)

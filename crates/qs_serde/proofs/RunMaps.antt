@@ -26,7 +26,7 @@ use Rattle.qs_serde.specs.declared.reading.frame.FrameKind.TheVariants as k
 use Rattle.qs_serde.specs.declared.reading.node.Part.{Part}
 use Rattle.qs_serde.specs.declared.reading.node.Part.TheVariants as p
 use Rattle.qs_serde.specs.declared.reading.format.TreeFormat.{TreeFormat}
-use Rattle.qs_serde.proofs.Numbers.{signed_of, unsigned_of}
+use Rattle.qs_serde.proofs.ReadNumbers.{signed_of, unsigned_of}
 use Rattle.qs_serde.proofs.RunLevels.{AfterItem, counted_some, taken}
 use Rattle.qs_serde.proofs.RunFields.{after, after_some, entry_due}
 
@@ -109,7 +109,8 @@ levels come next read a b = record {
 -- the key that is next is the due entry's
 pub key_at : (old come : TreeFormat) → Moves (count_of old) old come → come.part ≡ p.Key → tree_at come ≡ key_tree (entry_due old)
 key_at old come moves part =
-    let one : count_of come - 1 ≡ count_of old = ap (λ n. n - 1) moves.count in
+    let came = moves.count in
+    let one : count_of come - 1 ≡ count_of old = omega (arith, came) in
     ap (λ q. part_view come q) part ∙ ap (λ n. key_tree (slice_get (pairs_in (tree_of come.top.now)) n)) one
     ∙ ap (λ (v : Bor ParsedValue). key_tree (slice_get (pairs_in (tree_of v.now)) (count_of old))) moves.top
 
@@ -124,6 +125,6 @@ pair_more rd key r es n come x y rest (Some e) is at value by_text got others =
     ∙ ap (λ o. option_and_then (λ v. with_front (x, v) (read_pairs key r (after (suc n) es))) o) (ap r (same_Some _ _ value) ∙ got)
     ∙ ap (λ o. with_front (x, y) o) others
 
-pub after_read : {key : s.KeyShape} {r : Reader} {rest : List (d.Data × d.Data)} (old read : TreeFormat) (es : Entries) → AfterItem old read → read_pairs key r (after (count_of read) es) ≡ Some rest
+pub after_read : (key : s.KeyShape) (r : Reader) (rest : List (d.Data × d.Data)) (old read : TreeFormat) (es : Entries) → AfterItem old read → read_pairs key r (after (count_of read) es) ≡ Some rest
     → read_pairs key r (after (suc (count_of old)) es) ≡ Some rest
-after_read {key} {r} {rest} old read es a h = let one : count_of old + 1 ≡ suc (count_of old) = omega arith in subst (λ n. read_pairs key r (after n es) ≡ Some rest) (a.count ∙ one) h
+after_read key r rest old read es a h = let one : count_of old + 1 ≡ suc (count_of old) = omega arith in subst (λ n. read_pairs key r (after n es) ≡ Some rest) (a.count ∙ one) h

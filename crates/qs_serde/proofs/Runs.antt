@@ -2,7 +2,7 @@
 use Rattle.std.proofs.Common.{◌≡◌, inl, inr, ℕ, ◌-◌, Bool, true, List, Some, IsSome, refl, sym, ap, subst, ◌∙◌, arith}
 use Rattle.std.specs.Option.{option_map, option_and_then}
 use Rattle.std.specs.Borrow.{Bor}
-use Rattle.qs_serde.proofs.Numbers.{signed_of, unsigned_of}
+use Rattle.qs_serde.proofs.ReadNumbers.{signed_of, unsigned_of}
 use Rattle.std.proofs.lemmas.Int.{ints}
 use Rattle.serde.specs.declared.name.Name.{Name}
 use Rattle.qs_spec.specs.Data as d
@@ -74,14 +74,13 @@ mutual
             ready.part held kind (struct_fields rd unknown fs es ms ns fields all) (utf8_more _ _ fields.1 fields.2)),
         map_level old first new k.Fields ready begins got.1.0 got.1.1 got.1.2 got.1.3,
       )
-
   run_reads rd a old new x (mapping_run {key = key} {a = b} {first = first} {ps = ps} begins h) e plain ready =
       let es = map_entries (tree_of old.node.now) in
       let map : OfMap first es = ap (λ (v : Bor ParsedValue). pairs_in (tree_of v.now)) begins.0.top ∙ pairs_of_map (tree_of old.node.now) begins.1 in
       let got = pairs_read rd key b first new ps es h (subst IsSome (sym begins.0.frame) refl) map (ap (λ r. r.reject_duplicates) begins.0.keeps.0 ∙ e) (ap (λ x. x.in_order) begins.0.keeps.1 ∙ plain) in (
         ap (option_map (λ ps. d.mapping (d.pairs_of ps)))
-          (map_here key (reads rd b) old.part (tree_of old.node.now) (tree_of old.top.now) (count_of old - 1) ready.part begins.1 begins.2
-              ∙ sym (ap (λ f. read_pairs key (reads rd b) (after (passed f) es)) begins.0.frame) ∙ got.0),
+            (map_here key (reads rd b) old.part (tree_of old.node.now) (tree_of old.top.now) (count_of old - 1) ready.part begins.1 begins.2
+            ∙ sym (ap (λ f. read_pairs key (reads rd b) (after (passed f) es)) begins.0.frame) ∙ got.0),
         map_level old first new k.Map ready begins.0 got.1.0 got.1.1 got.1.2 got.1.3,
       )
 
@@ -97,7 +96,7 @@ mutual
       let then = after_item old come read comes.moves (levels come next read mid.2 got.1) in
       let others = pairs_read rd key a read new rest es more then.begun (of_map_after old read es then map) (ap (λ r. r.reject_duplicates) then.reader ∙ e) (then.plain ∙ plain) in (
         pair_more rd key (reads rd a) es (count_of old) come k x rest (entry_due old) (due old es map) (key_at old come comes.moves part) comes.entry.1
-            (λ t is. key_read rd key come k next t h duplicates ordered is) (ap (reads rd a) (sym (value_tree come next mid)) ∙ got.0) (after_read old read es then others.0),
+            (λ t is. key_read rd key come k next t h duplicates ordered is) (ap (reads rd a) (sym (value_tree come next mid)) ∙ got.0) (after_read key (reads rd a) rest old read es then others.0),
         left_after old read new then others.1,
       )
 

@@ -1,8 +1,8 @@
--- A serializer that didn't write an event.
+-- Where a serializer is that didn't write an event.
 use Rattle.std.specs.Prelude.{◌≡◌}
 use Rattle.qs_serde.specs.declared.writing.frame.Next.TheVariants.{Nothing}
-use Rattle.qs_serde.specs.declared.writing.text.TextSerializer.{TextSerializer}
+use Rattle.qs_serde.specs.declared.writing.position.Position.{Position}
 
 -- an event wasn't written, so no later one is
-abbrev pub HasFailed : TextSerializer → Type 0
-HasFailed s = s.position.next ≡ Nothing
+abbrev pub HasFailed : Position → Type 0
+HasFailed p = p.next ≡ Nothing

@@ -75,7 +75,7 @@ next_float format old = option_and_then (parse_float format) (next_text old)
 abbrev pub ReturnsParsed : {T E : Type 0} → (List ℕ → Result T E → Type 0) → TreeFormat → Result T ReadError → Type 0
 ReturnsParsed from_str old (Ok v) = (t : List ℕ) × (next_text old ≡ Some t) × from_str t (Ok v)
 ReturnsParsed {E = E} from_str old (Err e) =
-    ReadRejects (is_text (tree_at old)) e (next_text old) ⊎ (ReadIsCustom e × ((t : List ℕ) (cause : E) × (next_text old ≡ Some t) × from_str t (Err cause)))
+    ReadRejects (is_text (tree_at old)) e (next_text old) ⊎ (ReadIsCustom e × ((t : List ℕ) × (cause : E) × (next_text old ≡ Some t) × from_str t (Err cause)))
 
 abbrev pub IsHeld : Part → Type 0
 IsHeld p.Held = ⊤

@@ -93,7 +93,7 @@ fn finished<K: Settings>(
     config: Config,
     made: Result<(), Halt>,
 ) -> Result<()>
-    ensures { IsFinish config (HasFailed serializer.now) made result }
+    ensures { IsFinish config (HasFailed serializer.now.position) made result }
 {
     match made {
         Err(halt) => Err(halt.into_error(config)),

@@ -39,7 +39,7 @@ impl<'t, 'qs> Format for TreeFormat<'t, 'qs> {
 
     ghost stays = { Stays };
 
-    #[tactic(auto, using(crate::proofs::Errors::step_errors, crate::proofs::Kinds::boolean_only))]
+    #[tactic(auto, using(crate::proofs::Errors::step_errors, crate::proofs::OnlyKinds::boolean_only))]
     fn bool(&mut self, _input: &[u8]) -> Result<bool>
         ensures step { IfOk result (λ v. Reads self.old (boolean v) self.new) }
         ensures exact { Returns d.boolean self.old s.Shape.boolean result }
@@ -52,7 +52,7 @@ impl<'t, 'qs> Format for TreeFormat<'t, 'qs> {
         }
     }
 
-    #[tactic(auto, using(crate::proofs::Numbers::signed_wider))]
+    #[tactic(auto, using(crate::proofs::ReadNumbers::signed_wider))]
     fn i64(&mut self, _input: &[u8]) -> Result<i64>
         ensures step { IfOk result (λ v. Reads self.old (signed v) self.new) }
         ensures exact { IsPlain self.old → Returns d.signed self.old (s.Shape.signed 64) result }
@@ -61,7 +61,7 @@ impl<'t, 'qs> Format for TreeFormat<'t, 'qs> {
         self.signed()
     }
 
-    #[tactic(auto, using(crate::proofs::Numbers::unsigned_wider))]
+    #[tactic(auto, using(crate::proofs::ReadNumbers::unsigned_wider))]
     fn u64(&mut self, _input: &[u8]) -> Result<u64>
         ensures step { IfOk result (λ v. Reads self.old (unsigned v) self.new) }
         ensures exact { IsPlain self.old → Returns d.unsigned self.old (s.Shape.unsigned 64) result }
@@ -70,7 +70,6 @@ impl<'t, 'qs> Format for TreeFormat<'t, 'qs> {
         self.unsigned()
     }
 
-    #[tactic(auto, using(crate::proofs::Numbers::signed_parsed))]
     fn i128(&mut self, _input: &[u8]) -> Result<i128>
         ensures step { IfOk result (λ v. Reads self.old (signed v) self.new) }
         ensures exact { Returns d.signed self.old (s.Shape.signed 128) result }
@@ -78,7 +77,6 @@ impl<'t, 'qs> Format for TreeFormat<'t, 'qs> {
         self.parsed()
     }
 
-    #[tactic(auto, using(crate::proofs::Numbers::unsigned_parsed))]
     fn u128(&mut self, _input: &[u8]) -> Result<u128>
         ensures step { IfOk result (λ v. Reads self.old (unsigned v) self.new) }
         ensures exact { Returns d.unsigned self.old (s.Shape.unsigned 128) result }
@@ -86,7 +84,6 @@ impl<'t, 'qs> Format for TreeFormat<'t, 'qs> {
         self.parsed()
     }
 
-    #[tactic(auto, using(crate::proofs::Numbers::float_parsed))]
     fn f32(&mut self, _input: &[u8]) -> Result<f32>
         ensures step { IfOk result (λ v. Reads self.old (single v) self.new) }
         ensures exact { ReadGives (λ x. x) (is_text (tree_at self.old)) result (next_float binary32 self.old) }
@@ -94,7 +91,6 @@ impl<'t, 'qs> Format for TreeFormat<'t, 'qs> {
         self.parsed()
     }
 
-    #[tactic(auto, using(crate::proofs::Numbers::float_parsed))]
     fn f64(&mut self, _input: &[u8]) -> Result<f64>
         ensures step { IfOk result (λ v. Reads self.old (double v) self.new) }
         ensures exact { ReadGives (λ x. x) (is_text (tree_at self.old)) result (next_float binary64 self.old) }
@@ -102,7 +98,7 @@ impl<'t, 'qs> Format for TreeFormat<'t, 'qs> {
         self.parsed()
     }
 
-    #[tactic(auto, using(crate::proofs::Errors::step_errors, crate::proofs::Kinds::character_only))]
+    #[tactic(auto, using(crate::proofs::Errors::step_errors, crate::proofs::OnlyKinds::character_only))]
     fn char(&mut self, _input: &[u8]) -> Result<char>
         ensures step { IfOk result (λ v. Reads self.old (character v) self.new) }
         ensures exact { Returns d.character self.old s.Shape.character result }
@@ -149,7 +145,7 @@ impl<'t, 'qs> Format for TreeFormat<'t, 'qs> {
         self.text()
     }
 
-    #[tactic(auto, using(crate::proofs::Errors::step_errors, crate::proofs::Kinds::bytes_only))]
+    #[tactic(auto, using(crate::proofs::Errors::step_errors, crate::proofs::OnlyKinds::bytes_only))]
     fn byte_buf(&mut self, _alloc: Global, _input: &[u8]) -> Result<Vec<u8>>
         ensures step { IfOk result (λ v. Reads self.old (octets v.items) self.new) }
         ensures exact { Returns (λ v. d.bytes v.items) self.old s.Shape.bytes result }

@@ -80,7 +80,7 @@ impl<K: Settings> TextSerializer<K> {
     /// ```
     #[inline(always)]
     pub fn has_failed(&self) -> bool
-        ensures { IsTrue result ↔ HasFailed self.now }
+        ensures { IsTrue result ↔ HasFailed self.now.position }
     {
         matches!(self.position.next, Next::Nothing)
     }
@@ -92,7 +92,7 @@ impl<K: Settings> TextSerializer<K> {
     /// ```
     #[inline(always)]
     pub fn into_text(self) -> Vec<u8>
-        ensures events { ¬ HasFailed self → IsTextOf K.config self.log.events result.items }
+        ensures events { ¬ HasFailed self.position → IsTextOf K.config self.log.events result.items }
         ensures failed { IsTextOrNone K.config self.log.events result.items }
         ensures entries { IsTextOfEntries K.config result.items }
     {

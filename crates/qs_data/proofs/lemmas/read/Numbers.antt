@@ -79,8 +79,8 @@ unsigned_ok bits bs n h is le = unsigned_is bits bs ∙ numeral_within (2 ^ bits
 pub unsigned_past : (bits : ℕ) (bs : List ℕ) (n : ℕ) → IsNumeral 10 (without_leading_plus bs) → n ≡ digits_value 10 (without_leading_plus bs) → 2 ^ bits - 1 < n → unsigned_number bits bs ≡ None
 unsigned_past bits bs n h is lt = unsigned_is bits bs ∙ numeral_past (2 ^ bits - 1) (without_leading_plus bs) h (subst (λ m. 2 ^ bits - 1 < m) is lt)
 
-pub unsigned_bad : (bits wide : ℕ) (bs : List ℕ) → ¬ (IsNumeral 10 (without_leading_plus bs) × (digits_value 10 (without_leading_plus bs) < 2 ^ wide)) → 2 ^ bits ≤ 2 ^ wide → unsigned_number bits bs ≡ None
-unsigned_bad bits wide bs h le = elim (cases_Bool (is_numeral (without_leading_plus bs))) [
+pub unsigned_bad : (bits wide : ℕ) (bs : List ℕ) → ¬ (IsNumeral 10 (without_leading_plus bs) × (digits_value 10 (without_leading_plus bs) < 2 ^ wide)) → 2 ^ bits ≤ 2 ^ wide → 0 < 2 ^ wide → unsigned_number bits bs ≡ None
+unsigned_bad bits wide bs h le some = elim (cases_Bool (is_numeral (without_leading_plus bs))) [
   | inl is ↦ let v = digits_value 10 (without_leading_plus bs) in
       let held = numeral_holds (without_leading_plus bs) is in
       let large : v < 2 ^ wide → ⊥ = λ lt. h (held, lt) in
@@ -89,7 +89,7 @@ unsigned_bad bits wide bs h le = elim (cases_Bool (is_numeral (without_leading_p
 ]
 
 pub unsigned_err : (bits : ℕ) (bs : List ℕ) → ¬ (IsNumeral 10 (without_leading_plus bs) × (digits_value 10 (without_leading_plus bs) < 2 ^ 64)) → 2 ^ bits ≤ 2 ^ 64 → unsigned_number bits bs ≡ None
-unsigned_err bits bs h le = unsigned_bad bits 64 bs h le
+unsigned_err bits bs h le = unsigned_bad bits 64 bs h le (omega arith)
 
 pub unsigned_text : (bits : ℕ) (bs : List ℕ) → is_utf8 bs ≡ false → unsigned_number bits bs ≡ None
 unsigned_text bits bs h = elim (cases_Bool (is_numeral (without_leading_plus bs))) [
@@ -170,8 +170,8 @@ pub record HoldsHalf (w : IntWidth) (half : ℕ) : Type 0 where
   pub minus : (n : ℕ) → n ≤ half → FitsSigned w (neg_ℤ (pos n))
   pub plain : (n : ℕ) → n < half → FitsSigned w (pos n)
 
-pub signed_bad : (w : IntWidth) (half bits : ℕ) (bs : List ℕ) → HoldsHalf w half → ¬ (IsNumeral 10 (without_leading_sign bs) × FitsSigned w (signed_digits_value 10 bs)) → 2 ^ (bits - 1) ≤ half → signed_number bits bs ≡ None
-signed_bad w half bits bs fits h le = elim (cases_Bool (is_numeral (without_leading_sign bs))) [
+pub signed_bad : (w : IntWidth) (half bits : ℕ) (bs : List ℕ) → HoldsHalf w half → ¬ (IsNumeral 10 (without_leading_sign bs) × FitsSigned w (signed_digits_value 10 bs)) → 2 ^ (bits - 1) ≤ half → 0 < half → signed_number bits bs ≡ None
+signed_bad w half bits bs fits h le some = elim (cases_Bool (is_numeral (without_leading_sign bs))) [
   | inl is ↦
       let held = numeral_holds (without_leading_sign bs) is in
       elim (cases_Bool (starts_with_minus bs)) [
@@ -200,7 +200,7 @@ pub half_128 : HoldsHalf w128 (2 ^ 127)
 half_128 = record { minus = minus_128; plain = λ n h. record { sfits = h } }
 
 pub signed_err : (bits : ℕ) (bs : List ℕ) → ¬ (IsNumeral 10 (without_leading_sign bs) × FitsSigned w64 (signed_digits_value 10 bs)) → 2 ^ (bits - 1) ≤ 2 ^ 63 → signed_number bits bs ≡ None
-signed_err bits bs h le = signed_bad w64 (2 ^ 63) bits bs half_64 h le
+signed_err bits bs h le = signed_bad w64 (2 ^ 63) bits bs half_64 h le (omega arith)
 
 pub signed_width_fits : (w : Width) → 2 ^ (bits_of w - 1) ≤ 2 ^ 63
 signed_width_fits Bits64 = omega arith

@@ -1,9 +1,11 @@
 -- What the contracts of this crate mean, in the words of qs_spec and the views of qs_tree and qs_data.
 pub mod Nodes
 pub mod Lookups
+pub mod Kinds
 pub mod Places
 pub mod Errors
 pub mod Steps
+pub mod Runs
 pub mod Inputs
 -- Writing: what the events write, and the texts that they have; then, for private clauses, where the code is and what it keeps.
 pub mod Sent
@@ -11,6 +13,7 @@ pub mod Texts
 pub mod Sends
 pub mod Placed
 pub mod Halts
+pub mod Failed
 pub mod Logged
 pub mod Noted
 pub mod Follows

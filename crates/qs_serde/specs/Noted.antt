@@ -28,7 +28,7 @@ event_of (note.VariantKey s c) = Some (variant_key s.now c)
 event_of note.BeginKey = Some key_begins
 event_of note.EndKey = Some key_ends
 event_of note.Flatten = Some flattens
-event_of note.Lost = None
+event_of note.Printed = None
 
 abbrev pub noted : Log → Note → Log
 noted log n = option_and_then (then log) (event_of n)

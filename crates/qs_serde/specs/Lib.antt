@@ -1,7 +1,6 @@
 -- What the contracts of this crate mean, in the words of qs_spec and the views of qs_tree and qs_data.
 pub mod Nodes
 pub mod Lookups
-pub mod Kinds
 pub mod Places
 pub mod Errors
 pub mod Steps
@@ -13,7 +12,6 @@ pub mod Texts
 pub mod Sends
 pub mod Placed
 pub mod Halts
-pub mod Failed
 pub mod Logged
 pub mod Noted
 pub mod Follows

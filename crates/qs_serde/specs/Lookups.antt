@@ -1,6 +1,7 @@
--- Looking up a text among names.
+-- Looking up a text among names, and what data is made of.
 use Rattle.std.specs.Prelude.{◌≡◌, true, ℕ, List, [], Option, Some, None, MatchOption}
 use Rattle.std.specs.Str.{is_utf8}
+use Rattle.qs_spec.specs.Data.{Data}
 use Rattle.qs_spec.specs.Leaf.Leaf.{Null, Text}
 use Rattle.qs_spec.specs.Tree.{Tree}
 use Rattle.qs_spec.specs.Tree.Tree.{leaf}
@@ -20,3 +21,8 @@ FindsText names key at = Finds names key at
 -- this text, or the text of this key, is UTF-8 and was looked up among names
 abbrev pub LooksUp : Tree → List Name → ℕ → Type 0
 LooksUp t names at = MatchOption (only_text t) ⊥ (λ key. FindsText names key at × (is_utf8 key ≡ true))
+
+-- what data is made of by this constructor, if it is made by it
+abbrev pub IsMade : {X : Type 0} → (X → Data) → Data → Option X → Type 0
+IsMade make x None = (v : _) → ¬ (x ≡ make v)
+IsMade make x (Some v) = x ≡ make v

@@ -6,8 +6,7 @@ ghost use Rattle.std.specs.Io.KnownBytes.{Appends};
 ghost use Rattle.qs_spec.specs.Config.{default};
 ghost use Rattle.qs_tree.specs.Error.{IsIo};
 ghost use Rattle.qs_data.specs.write.State.{IsVisible};
-ghost use Rattle.qs_serde.specs.Failed.{HasFailed};
-ghost use Rattle.qs_serde.specs.Halts.{IsFinish};
+ghost use Rattle.qs_serde.specs.Halts.{HasFailed, IsFinish};
 ghost use Rattle.qs_serde.specs.Texts.{ReturnsTextOf, WritesTextOf};
 
 use crate::writing::{Halt, Settings, TextSerializer};

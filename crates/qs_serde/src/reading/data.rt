@@ -3,7 +3,7 @@
 ghost use Rattle.std.specs.Prelude.{option_map, string_bytes};
 ghost use Rattle.qs_spec.specs.Data as d;
 ghost use Rattle.qs_data.specs.data.Views.{data_of};
-ghost use Rattle.qs_serde.specs.Kinds.{IsMade};
+ghost use Rattle.qs_serde.specs.Lookups.{IsMade};
 
 use qs_data::Data;
 

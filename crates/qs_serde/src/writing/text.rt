@@ -41,7 +41,7 @@ pub struct TextSerializer<K: Settings> {
 }
 
 impl<K: Settings> TextSerializer<K> {
-    ghost use Rattle.qs_serde.specs.Failed.{HasFailed};
+    ghost use Rattle.qs_serde.specs.Halts.{HasFailed};
     ghost use Rattle.qs_serde.specs.Texts.{IsTextOf, IsTextOfEntries, IsTextOrNone};
 
     /// Returns a serializer that has written nothing. It allocates 128 bytes. The only error is

@@ -1,7 +1,7 @@
 use Rattle.std.proofs.Common.{subst}
 use Rattle.std.specs.Prelude.{Ok}
 use Rattle.qs_serde.specs.Halts.{IsFinish}
-use Rattle.qs_serde.specs.Failed.{HasFailed}
+use Rattle.qs_serde.specs.Halts.{HasFailed}
 use Rattle.qs_serde.proofs.Written.{are_visible, returned, were_written}
 use Rattle.qs_serde.proofs.calls.write.write_text.Goals as goal
 

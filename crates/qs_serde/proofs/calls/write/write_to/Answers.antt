@@ -1,7 +1,6 @@
 use Rattle.std.proofs.Common.{sym, subst}
 use Rattle.qs_serde.specs.Texts.{IsTextOf, IsTextOfEntries}
-use Rattle.qs_serde.specs.Failed.{HasFailed}
-use Rattle.qs_serde.specs.Halts.{IsFinish}
+use Rattle.qs_serde.specs.Halts.{HasFailed, IsFinish}
 use Rattle.qs_serde.proofs.Written.{nothing_put, nothing_put_exit, put_text, were_written}
 use Rattle.qs_serde.proofs.calls.write.write_to.Goals as goal
 

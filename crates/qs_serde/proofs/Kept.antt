@@ -20,7 +20,7 @@ use Rattle.qs_serde.specs.Placed.{Holds, IsIn, Moves, Stands, Stops}
 use Rattle.qs_serde.specs.Logged.{then}
 use Rattle.qs_serde.specs.Noted.{IsNoted, event_of, noted}
 use Rattle.qs_serde.specs.Texts.{AreShown, IsShown, IsTextOf, IsTextOfEntries, IsTextOrNone, Leads}
-use Rattle.qs_serde.specs.Follows.{Follows, LeadsTo}
+use Rattle.qs_serde.specs.Noted.{Follows, LeadsTo}
 
 -- one more event
 

@@ -12,5 +12,4 @@ pub mod Floats
 pub mod Walks
 pub mod Errors
 pub mod Borrowed
-pub mod OnlyKinds
 pub mod ReadNumbers

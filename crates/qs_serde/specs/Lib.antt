@@ -14,4 +14,3 @@ pub mod Placed
 pub mod Halts
 pub mod Logged
 pub mod Noted
-pub mod Follows

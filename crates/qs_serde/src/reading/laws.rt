@@ -14,6 +14,7 @@ ghost use Rattle.qs_serde.specs.declared.reading.format.TreeFormat.{TreeFormat};
 /// ```
 /// values_of_steps(); // its clause is the law
 /// ```
+#[tactic(auto, using(crate::proofs::Runs::exact_run))]
 pub fn values_of_steps()
     ensures { (shape : Shape) (old new : TreeFormat) (x : Data) → Run shape old x new → IsPlain old → IsReady old → reads old.reader.reject_duplicates shape (tree_at old) ≡ Some x }
 {}

@@ -56,7 +56,7 @@ fn past_signed(width: Width) -> i64 {
 
 impl<'t, 'qs> TreeFormat<'t, 'qs> {
     /// Reads a signed number of 64 bits.
-    #[tactic(auto, using(crate::proofs::Errors::step_errors, crate::proofs::OnlyKinds::signed_only))]
+    #[tactic(auto, using(crate::proofs::Errors::step_errors, crate::proofs::Borrowed::signed_only))]
     pub(crate) fn signed(&mut self) -> Result<i64>
         ensures notes { Notes self.old self.new }
         ensures number { IsPlain self.old → Returns d.signed self.old (s.Shape.signed 64) result }
@@ -79,7 +79,7 @@ impl<'t, 'qs> TreeFormat<'t, 'qs> {
     }
 
     /// Reads an unsigned number of 64 bits.
-    #[tactic(auto, using(crate::proofs::Errors::step_errors, crate::proofs::OnlyKinds::unsigned_only))]
+    #[tactic(auto, using(crate::proofs::Errors::step_errors, crate::proofs::Borrowed::unsigned_only))]
     pub(crate) fn unsigned(&mut self) -> Result<u64>
         ensures notes { Notes self.old self.new }
         ensures number { IsPlain self.old → Returns d.unsigned self.old (s.Shape.unsigned 64) result }

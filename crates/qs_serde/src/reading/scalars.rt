@@ -68,7 +68,7 @@ impl<'t, 'qs> TreeFormat<'t, 'qs> {
     }
 
     /// Reads what is next as a text.
-    #[tactic(auto, using(crate::proofs::Errors::step_errors, crate::proofs::Borrowed::text_read, crate::proofs::OnlyKinds::text_only))]
+    #[tactic(auto, using(crate::proofs::Errors::step_errors, crate::proofs::Borrowed::text_read, crate::proofs::Borrowed::text_only))]
     pub(crate) fn text(&mut self) -> Result<String>
         ensures takes { Takes self.old self.new }
         ensures exact { Returns (λ v. d.text (string_bytes v)) self.old s.Shape.text result }

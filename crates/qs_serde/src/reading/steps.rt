@@ -39,7 +39,7 @@ impl<'t, 'qs> Format for TreeFormat<'t, 'qs> {
 
     ghost stays = { Stays };
 
-    #[tactic(auto, using(crate::proofs::Errors::step_errors, crate::proofs::OnlyKinds::boolean_only))]
+    #[tactic(auto, using(crate::proofs::Errors::step_errors, crate::proofs::Borrowed::boolean_only))]
     fn bool(&mut self, _input: &[u8]) -> Result<bool>
         ensures step { IfOk result (λ v. Reads self.old (boolean v) self.new) }
         ensures exact { Returns d.boolean self.old s.Shape.boolean result }
@@ -98,7 +98,7 @@ impl<'t, 'qs> Format for TreeFormat<'t, 'qs> {
         self.parsed()
     }
 
-    #[tactic(auto, using(crate::proofs::Errors::step_errors, crate::proofs::OnlyKinds::character_only))]
+    #[tactic(auto, using(crate::proofs::Errors::step_errors, crate::proofs::Borrowed::character_only))]
     fn char(&mut self, _input: &[u8]) -> Result<char>
         ensures step { IfOk result (λ v. Reads self.old (character v) self.new) }
         ensures exact { Returns d.character self.old s.Shape.character result }
@@ -145,7 +145,7 @@ impl<'t, 'qs> Format for TreeFormat<'t, 'qs> {
         self.text()
     }
 
-    #[tactic(auto, using(crate::proofs::Errors::step_errors, crate::proofs::OnlyKinds::bytes_only))]
+    #[tactic(auto, using(crate::proofs::Errors::step_errors, crate::proofs::Borrowed::bytes_only))]
     fn byte_buf(&mut self, _alloc: Global, _input: &[u8]) -> Result<Vec<u8>>
         ensures step { IfOk result (λ v. Reads self.old (octets v.items) self.new) }
         ensures exact { Returns (λ v. d.bytes v.items) self.old s.Shape.bytes result }

@@ -8,7 +8,7 @@ ghost use Rattle.serde.specs.declared.name.NameKind.TheVariants.{Variant};
 ghost use Rattle.qs_serde.specs.Sent.{key_sent, sent, text_sent};
 ghost use Rattle.qs_serde.specs.Placed.{Moves};
 ghost use Rattle.qs_serde.specs.Noted.{IsNoted, event_of};
-ghost use Rattle.qs_serde.specs.Follows.{Follows};
+ghost use Rattle.qs_serde.specs.Noted.{Follows};
 ghost use Rattle.qs_serde.specs.declared.writing.frame.Next.TheVariants.{Nothing};
 ghost use Rattle.qs_serde.specs.declared.writing.position.Position.{Position as At};
 

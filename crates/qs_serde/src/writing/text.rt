@@ -2,7 +2,7 @@
 
 ghost use Rattle.std.specs.Prelude.{◌≡◌, ◌↔◌, [], IfOk, IsTrue, Some};
 ghost use Rattle.qs_spec.specs.Config.{Config as Meaning, default};
-ghost use Rattle.qs_serde.specs.Follows.{Follows};
+ghost use Rattle.qs_serde.specs.Noted.{Follows};
 
 use super::frame::Next;
 use super::log::Log;

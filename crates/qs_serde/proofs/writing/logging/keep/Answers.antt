@@ -1,5 +1,5 @@
 use Rattle.std.proofs.Common.{sym, subst}
-use Rattle.qs_serde.specs.Follows.{Follows}
+use Rattle.qs_serde.specs.Noted.{Follows}
 use Rattle.qs_serde.specs.Placed.{Moves}
 use Rattle.qs_serde.specs.Sent.{sent}
 use Rattle.qs_serde.proofs.Kept.{follows_on, follows_stop}

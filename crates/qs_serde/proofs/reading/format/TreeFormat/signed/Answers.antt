@@ -2,7 +2,7 @@ use Rattle.std.proofs.Common.{rules}
 use Rattle.qs_data.specs.declared.shape.shape.Shape as shape
 use Rattle.qs_data.specs.data.Views.{data_of}
 use Rattle.qs_serde.specs.Nodes.{node_tree}
-use Rattle.qs_serde.proofs.OnlyKinds.{signed_only}
+use Rattle.qs_serde.proofs.Borrowed.{signed_only}
 use Rattle.qs_serde.proofs.reading.format.TreeFormat.signed.Goals as goal
 
 pub returns-in-None-clause-number : goal.returns-in-None-clause-number

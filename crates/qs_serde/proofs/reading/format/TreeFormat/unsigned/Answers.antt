@@ -2,7 +2,7 @@ use Rattle.std.proofs.Common.{rules}
 use Rattle.qs_data.specs.declared.shape.shape.Shape as shape
 use Rattle.qs_data.specs.data.Views.{data_of}
 use Rattle.qs_serde.specs.Nodes.{node_tree}
-use Rattle.qs_serde.proofs.OnlyKinds.{unsigned_only}
+use Rattle.qs_serde.proofs.Borrowed.{unsigned_only}
 use Rattle.qs_serde.proofs.reading.format.TreeFormat.unsigned.Goals as goal
 
 pub returns-in-None-clause-number : goal.returns-in-None-clause-number

@@ -2,7 +2,7 @@ use Rattle.std.proofs.Common.{rules}
 use Rattle.qs_data.specs.declared.shape.shape.Shape as shape
 use Rattle.qs_data.specs.data.Views.{data_of}
 use Rattle.qs_serde.specs.Places.{tree_at}
-use Rattle.qs_serde.proofs.OnlyKinds.{character_only}
+use Rattle.qs_serde.proofs.Borrowed.{character_only}
 use Rattle.qs_serde.proofs.reading.steps.TreeFormatFormat.char.Goals as goal
 
 pub returns-in-None-clause-exact : goal.returns-in-None-clause-exact

@@ -1,6 +1,6 @@
 -- What a serializer keeps of the events that it was sent.
 use Rattle.std.proofs.Common.{◌≡◌, ℕ, false, List, [], ◌∷◌, ◌++◌, refl, sym, ap, ◌∙◌, subst, ◌⊎◌, Option, Some, None, Ok, Err, inl, inr}
-use Rattle.std.specs.Prelude.{⊤, IfSome, option_map, option_and_then}
+use Rattle.std.specs.Prelude.{IfSome, option_map, option_and_then}
 use Rattle.std.proofs.lemmas.Option.{none-some, same_Some}
 use Rattle.std.specs.List.{All}
 use mathlib.Core.Logic.{∥∥₁_map}

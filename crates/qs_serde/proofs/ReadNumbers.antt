@@ -1,5 +1,5 @@
 -- The numbers that texts write: of several widths, and as std parses them.
-use Rattle.std.proofs.Common.{◌≡◌, ℕ, ℤ, pos, ◌^◌, ◌-◌, ◌≤◌, ◌<◌, ◌⊎◌, inl, inr, List, [], ◌∷◌, Bool, true, false, None, Some, Option, Result, Ok, Err, eqb, ◌==◌, refl, sym, ap, ◌∙◌, if◌then◌else◌, arith, subst}
+use Rattle.std.proofs.Common.{◌≡◌, ℕ, ℤ, pos, ◌^◌, ◌-◌, ◌≤◌, inl, inr, List, [], ◌∷◌, Bool, true, false, None, Some, Option, Result, Ok, Err, ◌==◌, refl, sym, ap, ◌∙◌, if◌then◌else◌, arith, subst}
 use Rattle.std.proofs.lemmas.Option.{same_Some, none-some, cond_some}
 use Rattle.std.proofs.lemmas.Int.{ints}
 use Rattle.std.specs.Option.{option_map, option_and_then}
@@ -11,7 +11,7 @@ use Rattle.std.specs.Int.{w128}
 use Rattle.std.specs.Int.RustNames.{FitsSigned}
 use Rattle.std.specs.Float.{Float, Format}
 use Rattle.std.specs.Float.Parse.{IsParseFloatResult, parse_float}
-use Rattle.qs_data.proofs.Common.{cases_Bool, nat_tests, neg_ℤ, ◌≤ℤ◌}
+use Rattle.qs_data.proofs.Common.{nat_tests, neg_ℤ, ◌≤ℤ◌}
 use Rattle.qs_data.proofs.lemmas.read.Numbers.{half_128, signed_bad, signed_ok, signed_text, unsigned_bad, unsigned_ok, unsigned_text}
 use Rattle.qs_spec.proofs.Booleans.{and_both}
 use Rattle.qs_spec.specs.Data as d
@@ -26,7 +26,7 @@ use Rattle.qs_spec.specs.Node.{last_item}
 use Rattle.qs_spec.specs.internal.ReadFunction.{reads, read_scalar}
 use Rattle.qs_data.specs.declared.read.error.ReadError.{ReadError}
 use Rattle.qs_data.specs.read.TreeText.{is_text}
-use Rattle.qs_data.specs.read.internal.ReadError.{ReadGives, ReadRejects}
+use Rattle.qs_data.specs.read.internal.ReadError.{ReadGives}
 use Rattle.qs_serde.specs.Places.{tree_at}
 use Rattle.qs_serde.specs.Steps.{Notes, Reads, Returns, ReturnsParsed, Takes, next_float, next_text, text_in}
 use Rattle.qs_serde.specs.declared.reading.format.TreeFormat.{TreeFormat}

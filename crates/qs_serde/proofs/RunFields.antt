@@ -1,5 +1,5 @@
 -- The fields of a struct, as their entries are read.
-use Rattle.std.proofs.Common.{◌≡◌, inl, inr, ℕ, zero, suc, ◌==◌, ◌||◌, ◌&&◌, not, cond, Any, HoldsAt, ◌+◌, ◌-◌, ◌<◌, ◌≤◌, Bool, true, false, List, [], ◌∷◌, length, slice_get, Option, Some, None, IsSome, refl, sym, ap, subst, ◌∙◌, arith}
+use Rattle.std.proofs.Common.{◌≡◌, inl, inr, ℕ, zero, suc, ◌==◌, ◌||◌, ◌&&◌, not, cond, Any, HoldsAt, ◌+◌, ◌<◌, ◌≤◌, Bool, true, false, List, [], ◌∷◌, length, slice_get, Option, Some, None, IsSome, refl, sym, ap, subst, ◌∙◌, arith}
 use Rattle.std.specs.Option.{option_map, option_and_then}
 use Rattle.std.specs.Borrow.{Bor}
 use Rattle.qs_data.proofs.Common.{cases_Bool, false≢true, nat_tests}
@@ -22,7 +22,7 @@ use Rattle.qs_spec.specs.internal.ReadFunction.{Reader, reads, reads_names, read
 use Rattle.qs_tree.specs.declared.tree.value.ParsedValue.{ParsedValue}
 use Rattle.qs_tree.specs.tree.Views.{entry_list, tree_of}
 use Rattle.qs_serde.specs.Nodes.{key_tree, pairs_in}
-use Rattle.qs_serde.specs.Places.{count_of, innermost, part_tree}
+use Rattle.qs_serde.specs.Places.{count_of, part_tree}
 use Rattle.qs_serde.specs.Runs.{AreNamed, collected, field_at, read_of, slot}
 use Rattle.qs_serde.specs.Steps.{HasNoEntry, is_held, kind_of_struct, node_unless_key}
 use Rattle.qs_serde.specs.declared.reading.frame.Frame.{Frame}

@@ -1,5 +1,5 @@
 -- The entries of a map, as their keys and values are read.
-use Rattle.std.proofs.Common.{◌≡◌, inl, ℕ, suc, ◌+◌, ◌-◌, Bool, true, false, List, ◌∷◌, Option, Some, None, IsSome, refl, sym, ap, subst, ◌∙◌, arith}
+use Rattle.std.proofs.Common.{◌≡◌, inl, ℕ, suc, ◌+◌, ◌-◌, Bool, false, List, ◌∷◌, Option, Some, None, refl, sym, ap, subst, ◌∙◌, arith}
 use Rattle.std.specs.Option.{option_map, option_and_then}
 use Rattle.std.specs.Prelude.{slice_get}
 use Rattle.std.specs.Borrow.{Bor}
@@ -12,7 +12,7 @@ use Rattle.qs_spec.specs.Node.{under_empty}
 use Rattle.qs_spec.specs.Scalar.{key_data}
 use Rattle.qs_spec.specs.Segment.{ParsedSegment, segment_text}
 use Rattle.qs_spec.specs.Tree.{Tree, Entries}
-use Rattle.qs_spec.specs.Tree.Entries.{no_entries, entry}
+use Rattle.qs_spec.specs.Tree.Entries.{no_entries}
 use Rattle.qs_spec.specs.Tree.Tree.{leaf, sequence, mapping, uninitialized}
 use Rattle.qs_spec.specs.internal.ReadFunction.{Reader, reads, read_map, read_pairs, with_front}
 use Rattle.qs_tree.specs.declared.tree.value.ParsedValue.{ParsedValue}

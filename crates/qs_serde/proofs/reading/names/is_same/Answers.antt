@@ -1,5 +1,4 @@
-use Rattle.std.proofs.Common.{rules, ◌≡◌, true, sym, subst, ◌∙◌}
-use Rattle.std.specs.Str.{is_utf8}
+use Rattle.std.proofs.Common.{rules}
 use Rattle.qs_serde.proofs.Names.{same_stands, same_utf8}
 use Rattle.qs_serde.proofs.reading.names.is_same.Goals as goal
 

@@ -83,7 +83,7 @@ class Page:
         return "".join(file.read_text(encoding="utf-8") for crate in crates for file in files_of(crate, "src", ".rt"))
 
     def tokens(self, crates, call):
-        """Returns the names of a call's clauses, and the words to which they lead; of a type nothing is known, and of no call None."""
+        """Returns the names of a call's clauses, and the words to which they lead; of a type all words of the sources, and of what isn't there None."""
         key = (*crates, call)
         if key not in self.seen:
             self.seen[key] = self.tokens_of(self.contracts_of(crates, call), crates, call)
@@ -92,14 +92,14 @@ class Page:
     def tokens_of(self, found, crates, call):
         if found:
             return [name for _, clauses in found for _, name, _ in clauses if name], reached(" ".join(text for _, clauses in found for *_, text in clauses), self.known)
-        return ([], None) if self.is_declared(crates, call) else (None, None)
+        return ([], {*WORD.findall(self.sources(crates)), *self.known}) if self.is_declared(crates, call) else (None, None)
 
     def fits(self, cited, names, words_there):
         """Whether what a row cites is a clause of the call, a field of a record, or a word to which the call leads."""
         record, _, field = cited.partition(".")
         if field:
-            return (words_there is None or record in words_there) and field in FIELD.findall(self.known[record])
-        return cited in names or (words_there is None and (cited in self.known or cited in names)) or (words_there is not None and cited in words_there)
+            return record in words_there and field in FIELD.findall(self.known[record])
+        return cited in names or cited in words_there
 
     def check_row(self, where, crates, calls, cell):
         cited, of_row = NAME.findall(cell), []

@@ -184,4 +184,38 @@ fail_each '&' 0 'the query has no pairs' sorts explained
 fail_each 'a=1&a[b' 0 "parsing failed with error: '$value_and_map' at position: 7" map explained
 fail_each 'a=1' 0 'it is read' map explained
 
+# Types with serde's derives: each line that the program prints is the right one, or says that memory ran out, unless the program ended
+# before it. After the last allocation it is the right one.
+program=${3:-$root/crates/qs_derived/out/qs_derived}
+[ -x "$program" ] || fail "there is no program $program: run 'rt run' in crates/qs_derived once"
+
+# derived_each TYPE: of the cases of scripts/golden/derives.tsv that the type reads, the longest.
+derived_each() {
+    local at case input right
+    case=$(grep -P "^query\t5\tlast\t$1\t\?[^\t]*\t.*\?" "$root/scripts/golden/derives.tsv" | awk '{ print length, $0 }' | sort -n | tail -n 1 | cut -d ' ' -f 2-)
+    input=$(cut -f 1-5 <<<"$case")
+    right=$(awk -F '\t' '{ print $7 == "" ? $6 : $7 }' <<<"$case")
+    for ((at = 1; at <= 1000; at++)); do
+        FAILING_ALLOCATION=$at LD_PRELOAD=$failing "$program" <<<"$input" >"$room/output" 2>/dev/null 9>"$room/failed"
+        status=$?
+        found=$(<"$room/output")
+        if [ "$status" -eq 0 ] && [ "$found" = "$right" ]; then
+            pass
+        elif [ -s "$room/failed" ] && { [[ $found == *OutOfMemory* ]] || { [ "$status" -ne 0 ] && [ -z "$found" ]; }; }; then
+            pass
+        else
+            fail "$input with allocation $at failing: status $status, printed '${found:0:200}'"
+        fi
+        if [ ! -s "$room/failed" ]; then
+            [ "$at" -gt 3 ] || fail "$input: no allocation failed"
+            return
+        fi
+    done
+    fail "$input: no end of its allocations"
+}
+
+for type in $(cut -f 4 "$root/scripts/golden/derives.tsv" | sort -u); do
+    derived_each "$type"
+done
+
 report

@@ -1,5 +1,5 @@
 -- The errors of what a step calls, as errors of the step.
-use Rattle.std.proofs.Common.{◌≡◌, ℕ, List, Bool, false, Option, None, sym, subst}
+use Rattle.std.proofs.Common.{◌≡◌, ◌≢◌, ◌⊎◌, inl, inr, refl, ℕ, List, Bool, false, Option, None, sym, subst}
 use Rattle.qs_tree.specs.Error.{IsCustomSaying}
 use Rattle.qs_tree.specs.declared.error.Error.{Error}
 use Rattle.qs_tree.specs.declared.error.Error.TheVariants as e
@@ -77,3 +77,10 @@ of_tree config input tree e is h = absurd h
 pub ruleset step_errors = (passed, passed_custom, narrowed_gives, of_rejects, of_more, of_custom, of_reading, custom_is_read, saying_is_read, rejects_is_read)
 
 pub ruleset begin_errors = (passed, passed_custom, narrowed_gives, rejects_custom, rejects_further, rejects_memory, custom_is_read, rejects_is_read)
+
+-- a hint keeps what an error rejects
+pub hint_rejects : {Y : Type 0} (t : Bool) (e f : ReadError) (r : Option Y) → (f ≡ e) ⊎ (ReadIsCustom f × (e ≢ OutOfMemory)) → ReadRejects t e r → ReadRejects t f r
+hint_rejects t e f r (inl same) h = subst (λ x. ReadRejects t x r) (sym same) h
+hint_rejects t (Custom m) f r (inr is) h = rejects_custom t f r is.0 h
+hint_rejects t (Utf8 c) f r (inr is) h = rejects_custom t f r is.0 h.0
+hint_rejects t OutOfMemory f r (inr is) h = absurd (is.1 refl)

@@ -1,5 +1,9 @@
 pub mod Names
 pub mod Places
+pub mod RunLevels
+pub mod RunFields
+pub mod RunMaps
+pub mod Runs
 pub mod Positions
 pub mod Kept
 pub mod Written
@@ -8,3 +12,4 @@ pub mod Floats
 pub mod Walks
 pub mod Errors
 pub mod Borrowed
+pub mod ReadNumbers

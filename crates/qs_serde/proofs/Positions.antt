@@ -126,7 +126,7 @@ module _ (config : Config) (s : State) (p : Position) (segment : List ℕ) (e : 
     where
       by : (nat_lt config.max_depth (length (path_of s.around)) ≡ true) ⊎ IsMemory (Stopped e) → Stops (goes_under config segment s) (Stopped e) config s.entries (record { writer = w; frame = p.frame; around = p.around; next = p.next })
       by (inl deep) = inl (under_is config segment s true (empty config s p none h) deep, kept)
-      by (inr memory) = inr (memory, (s.entries, kept))
+      by (inr memory) = inr (memory, inl kept)
 
 -- an entry was written
 
@@ -157,11 +157,11 @@ module _ (config : Config) (s : State) (before : Position) (value : Option (List
   out_of_memory OutOfMemory t u path w = tt
 
   pub failed : (e : Stop) (now last : Writer) → WritesPart (Err e) before.writer now (λ config path. one path value) → IsFresh now.config last
-      → IsMemory (Stopped e) × ((es : List Entry) × Holds config last es)
+      → IsMemory (Stopped e) × Holds config last []
   failed e now last p fresh =
       let config_is : now.config ≡ config = p.config ∙ h.holds.settings in (
         out_of_memory e (state_of before.writer) (state_of now) (path_at s) (writes_here (Err e) now p),
-        ([], holds_fresh config last (subst (λ (k : Config). IsFresh k last) config_is fresh)),
+        holds_fresh config last (subst (λ (k : Config). IsFresh k last) config_is fresh),
       )
 
 -- what comes next

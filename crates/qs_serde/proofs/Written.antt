@@ -1,6 +1,6 @@
 -- What a call returns that writes, and what it put to a writer.
 use Rattle.std.proofs.Common.{◌≡◌, ℕ, ◌<◌, List, [], length, take, ◌⊎◌, inl, inr, refl, sym, subst, string_bytes, Option, Some, Result, Ok, Err}
-use Rattle.std.specs.Prelude.{⊤, IsOkAnd, OnOk}
+use Rattle.std.specs.Prelude.{OnOk}
 use Rattle.std.specs.List.{All}
 use Rattle.std.specs.Result.{IsErrAnd}
 use Rattle.std.specs.Io.KnownBytes.{Appends}
@@ -17,6 +17,7 @@ use Rattle.qs_tree.specs.Error.{IsIo}
 use Rattle.qs_tree.specs.declared.error.Error.{Error}
 use Rattle.qs_data.specs.write.State.{IsVisible}
 use Rattle.qs_serde.specs.declared.writing.halt.Halt.{Halt}
+use Rattle.qs_serde.specs.Halts.{IsFinish}
 use Rattle.qs_serde.specs.Texts.{IsTextOf, IsTextOfEntries, ReturnsTextOf, WritesTextOf}
 
 pub are_visible : (config : Config) (bytes : List ℕ) → IsTextOfEntries config bytes → ∥ All IsVisible bytes ∥₁
@@ -28,13 +29,10 @@ returned config writes first last bytes s fresh sends text entries is =
     ((last, subst (λ l. writes l last) fresh sends, subst (IsTextOf config last) (sym is) text), subst (IsTextOfEntries config) (sym is) entries)
 
 -- the serializer's steps, where the call has their result
-pub was_ok : (A : Type 0) (made : Result (Unit {0}) Halt) → IsOkAnd made (λ _. ⊤) → OnOk made A → A
-was_ok A (Ok x) ok h = h
-was_ok A (Err e) ok h = absurd ok
-
-pub of_ok : (A : Type 0) (made : Result (Unit {0}) Halt) (r : Result (Unit {0}) Error) → OnOk r (IsOkAnd made (λ _. ⊤)) → OnOk made A → OnOk r A
-of_ok A made (Ok x) f h = was_ok A made f h
-of_ok A made (Err e) f h = tt
+pub were_written : (config : Config) (failed A : Type 0) (made : Result (Unit {0}) Halt) (r : Result (Unit {0}) Error) → IsFinish config failed made r → OnOk made A → OnOk r (¬ failed × A)
+were_written config failed A (Ok x) (Ok y) f h = (f, h)
+were_written config failed A (Err e) (Ok y) f h = absurd f
+were_written config failed A made (Err e) f h = tt
 
 -- nothing was put
 no_entries : (config : Config) → IsTextOfEntries config []
@@ -56,11 +54,11 @@ nothing_put_exit config writes known (Err y) e h = nothing_put config writes kno
 abbrev Puts : List ℕ → Result (Unit {0}) Error → Option (List ℕ) → Option (List ℕ) → Result (Unit {0}) Error → Type 0
 Puts bytes made old new r = ((r ≡ made) × Appends old new bytes) ⊎ (IsIo r × (n : ℕ) × (n < length bytes) × Appends old new (take n bytes))
 
-module _ (config : Config) (writes : Log → Log → Type 0) (first last : Log) (bytes : List ℕ) (fresh : first ≡ Some []) (text : IsTextOf config last bytes) (entries : IsTextOfEntries config bytes)
-    (old new : Option (List ℕ)) where
-  whole_put : (made : Result (Unit {0}) Error) → OnOk made (writes first last) → Appends old new bytes → WritesTextOf config writes old new made
+module _ (config : Config) (failed : Type 0) (writes : Log → Log → Type 0) (first last : Log) (bytes : List ℕ) (fresh : first ≡ Some []) (text : ¬ failed → IsTextOf config last bytes)
+    (entries : IsTextOfEntries config bytes) (old new : Option (List ℕ)) where
+  whole_put : (made : Result (Unit {0}) Error) → OnOk made (¬ failed × writes first last) → Appends old new bytes → WritesTextOf config writes old new made
   whole_put (Ok x) sends added = record {
-    whole = (last, subst (λ l. writes l last) fresh sends, (bytes, text, added));
+    whole = (last, subst (λ l. writes l last) fresh sends.1, (bytes, text sends.0, added));
     entries = λ io. (bytes, entries, added);
     part = (bytes, length bytes, entries, subst (Appends old new) (sym (take-length bytes)) added);
   }
@@ -78,6 +76,6 @@ module _ (config : Config) (writes : Log → Log → Type 0) (first last : Log) 
     part = (bytes, n, entries, added);
   }
 
-  pub put_text : (made r : Result (Unit {0}) Error) → OnOk made (writes first last) → Puts bytes made old new r → WritesTextOf config writes old new r
+  pub put_text : (made r : Result (Unit {0}) Error) → OnOk made (¬ failed × writes first last) → Puts bytes made old new r → WritesTextOf config writes old new r
   put_text made r sends (inl all) = subst (WritesTextOf config writes old new) (sym all.0) (whole_put made sends all.1)
   put_text made r sends (inr some) = part_put r some.1 some.0 some.3

@@ -4,6 +4,7 @@ pub mod Lookups
 pub mod Places
 pub mod Errors
 pub mod Steps
+pub mod Runs
 pub mod Inputs
 -- Writing: what the events write, and the texts that they have; then, for private clauses, where the code is and what it keeps.
 pub mod Sent
@@ -13,4 +14,3 @@ pub mod Placed
 pub mod Halts
 pub mod Logged
 pub mod Noted
-pub mod Follows

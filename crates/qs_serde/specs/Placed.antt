@@ -58,9 +58,9 @@ IsMemory (Stopped Io) = ⊤
 IsMemory (Stopped OutOfMemory) = ⊤
 IsMemory _ = ⊥
 
--- after an error: the event can't come, and nothing was written; or an allocation failed, and there is the text of some entries
+-- after an error: the event can't come, and nothing was written; or an allocation failed, and there is the text of the entries before, or none
 abbrev pub Stops : Option State → Halt → Config → List Entry → Position → Type 0
-Stops reached e config before p = ((reached ≡ None) × Holds config p.writer before) ⊎ (IsMemory e × ((es : List Entry) × Holds config p.writer es))
+Stops reached e config before p = ((reached ≡ None) × Holds config p.writer before) ⊎ (IsMemory e × (Holds config p.writer before ⊎ Holds config p.writer []))
 
 -- what a step leaves that leads to this state, if to any
 abbrev pub Arrives : {T : Type 0} → Option State → Result T Halt → Config → List Entry → Position → Type 0

@@ -1,15 +1,20 @@
 -- What each step of the format reads, and where the format is then.
-use Rattle.std.specs.Prelude.{◌≡◌, ◌⊎◌, ◌↔◌, ℕ, suc, pos, negsuc, ◌<ℤ◌, ◌^◌, ◌≤◌, ◌<◌, ⊤, Bool, true, false, List, length, take, drop, slice_get, Option, Some, None, option_map, option_and_then, IsSome, cond}
+use Rattle.std.specs.Prelude.{◌≡◌, ◌⊎◌, ◌↔◌, ℕ, suc, ◌<◌, ⊤, Bool, true, false, List, length, take, drop, slice_get, Option, Some, None, option_map, option_and_then, IsSome, Result, Ok, Err, cond}
+use Rattle.std.specs.Float.{Float, Format, binary32, binary64}
+use Rattle.std.specs.Float.Parse.{parse_float}
 use Rattle.qs_spec.specs.Leaf.Leaf.{NoValue, Null, Text}
 use Rattle.qs_spec.specs.Tree.{Tree, Entries}
 use Rattle.qs_spec.specs.Tree.Tree.{leaf, sequence, mapping, uninitialized}
-use Rattle.qs_spec.specs.Node.{items}
+use Rattle.qs_spec.specs.Node.{IsFull, items}
 use Rattle.qs_spec.specs.Data as d
 use Rattle.qs_spec.specs.Shape as s
 use Rattle.qs_tree.specs.tree.Views.{tree_of, entry_list}
 use Rattle.qs_data.specs.read.Entries.{node_entries}
 use Rattle.qs_data.specs.read.Items.{first_item}
 use Rattle.qs_data.specs.read.Reads.{reads}
+use Rattle.qs_data.specs.read.TreeText.{is_text}
+use Rattle.qs_data.specs.read.internal.ReadError.{ReadGives, ReadIsCustom, ReadRejects}
+use Rattle.qs_data.specs.declared.read.error.ReadError.{ReadError}
 use Rattle.serde.specs.Event.{Event, boolean, signed, unsigned, single, double, character, text, octets, nothing, seq_begins, seq_ends, map_begins, map_ends, key_begins, struct_begins}
 use Rattle.serde.specs.declared.name.Name.{Name}
 use Rattle.qs_serde.specs.Nodes.{IsEntry, key_tree, listed, pairs_in}
@@ -51,9 +56,26 @@ Notes old new = new ≡ record old { part = part_after old.part; asked = new.ask
 abbrev pub Is : TreeFormat → s.Shape → d.Data → Type 0
 Is old shape datum = reads old.reader.reject_duplicates shape (tree_at old) ≡ Some datum
 
--- what was next has a text
-abbrev pub HasText : TreeFormat → Type 0
-HasText old = (t : List ℕ) × Is old s.Shape.text (d.text t)
+-- what a step returns that reads what was next by a shape
+abbrev pub Returns : {X : Type 0} → (X → d.Data) → TreeFormat → s.Shape → Result X ReadError → Type 0
+Returns make old shape result = ReadGives make (is_text (tree_at old)) result (reads old.reader.reject_duplicates shape (tree_at old))
+
+-- the text of what was next, and the float that it writes
+abbrev pub text_in : d.Data → Option (List ℕ)
+text_in (d.text t) = Some t
+text_in _ = None
+
+abbrev pub next_text : TreeFormat → Option (List ℕ)
+next_text old = option_and_then text_in (reads old.reader.reject_duplicates s.Shape.text (tree_at old))
+
+abbrev pub next_float : Format → TreeFormat → Option Float
+next_float format old = option_and_then (parse_float format) (next_text old)
+
+-- What a step returns that parses the text of what was next by a type's `from_str`.
+abbrev pub ReturnsParsed : {T E : Type 0} → (List ℕ → Result T E → Type 0) → TreeFormat → Result T ReadError → Type 0
+ReturnsParsed from_str old (Ok v) = (t : List ℕ) × (next_text old ≡ Some t) × from_str t (Ok v)
+ReturnsParsed {E = E} from_str old (Err e) =
+    ReadRejects (is_text (tree_at old)) e (next_text old) ⊎ (ReadIsCustom e × ((t : List ℕ) × (cause : E) × (next_text old ≡ Some t) × from_str t (Err cause)))
 
 abbrev pub IsHeld : Part → Type 0
 IsHeld p.Held = ⊤
@@ -136,6 +158,10 @@ pub record EntryComes (i : ℕ) (key : Node) (old new : TreeFormat) : Type 0 whe
   pub entry : IsEntry (slice_get (pairs_in (tree_of old.top.now)) i) key (tree_of new.node.now)
   pub moves : Moves i old new
 
+-- the next item of the innermost list, if there is one; none if a map has another key there
+abbrev pub next_item_of : TreeFormat → Option (Option Tree)
+next_item_of f = first_item (drop (count_of f) (listed (tree_of f.top.now)))
+
 -- no item of the innermost list is left
 abbrev pub HasNoItem : TreeFormat → Type 0
 HasNoItem old = first_item (drop (count_of old) (listed (tree_of old.top.now))) ≡ Some None
@@ -148,10 +174,10 @@ MayEndEarly _ = ⊤
 -- what a step gave
 abbrev pub Reads : TreeFormat → Event → TreeFormat → Type 0
 Reads old (boolean b) new = Takes old new × Is old s.Shape.boolean (d.boolean b)
-Reads old (signed z) new = Notes old new × (IsPlain old → Is old (s.Shape.signed 64) (d.signed z) ⊎ ((pos 9223372036854775807 <ℤ z) ⊎ (z <ℤ negsuc 9223372036854775807)))
-Reads old (unsigned m) new = Notes old new × (IsPlain old → Is old (s.Shape.unsigned 64) (d.unsigned m) ⊎ (2 ^ 64 ≤ m))
-Reads old (single x) new = Takes old new × HasText old
-Reads old (double x) new = Takes old new × HasText old
+Reads old (signed z) new = Notes old new × (IsPlain old → Is old (s.Shape.signed 128) (d.signed z))
+Reads old (unsigned m) new = Notes old new × (IsPlain old → Is old (s.Shape.unsigned 128) (d.unsigned m))
+Reads old (single x) new = Takes old new × (next_float binary32 old ≡ Some x)
+Reads old (double x) new = Takes old new × (next_float binary64 old ≡ Some x)
 Reads old (character c) new = Takes old new × Is old s.Shape.character (d.character c)
 Reads old (text t) new = Takes old new × Is old s.Shape.text (d.text t)
 Reads old (octets t) new = Takes old new × Is old s.Shape.bytes (d.bytes t)
@@ -167,9 +193,17 @@ Reads old _ new = ⊤
 abbrev pub BeginsStruct : TreeFormat → TreeFormat → Type 0
 BeginsStruct old new = (kind : FrameKind) × Begins old kind new × (next_struct old ≡ Some kind)
 
+-- a map was begun, as a list of entries
+abbrev pub BeginsMap : TreeFormat → TreeFormat → Type 0
+BeginsMap old new = Begins old k.Map new × HasParts k.Map (tree_of old.node.now) × (next_node old ≡ Some (tree_of old.node.now))
+
 -- an empty value is `Some` of what is read from no value
 abbrev pub Empties : TreeFormat → TreeFormat → Type 0
 Empties old new = (tree_at old ≡ leaf Null) × (new ≡ record old { part = p.NoValue })
+
+-- `take_none` found a value: it is next as it is, or no value is in place of an empty one
+abbrev pub LooksInside : TreeFormat → TreeFormat → Type 0
+LooksInside old looked = ((looked ≡ old) × IsFull (tree_at old)) ⊎ Empties old looked
 
 -- the next item of the innermost list is next
 pub record Comes (old new : TreeFormat) : Type 0 where
@@ -184,17 +218,18 @@ Stays old new = (new ≡ old) ⊎ Empties old new ⊎ Comes old new
 abbrev pub BeginsAfterLook : TreeFormat → Bool → TreeFormat → Type 0
 BeginsAfterLook old is_sequence new = Reads old (struct_begins is_sequence) new ⊎ ((looked : TreeFormat) × Stays old looked × Reads looked (struct_begins is_sequence) new)
 
--- the format went to the entry at an index of the innermost map: its key was looked up among the names, and its value is next
-pub record EntryIs (i : ℕ) (names : List Name) (at : ℕ) (old new : TreeFormat) : Type 0 where
+-- the format went to the entry at an index of the innermost map: its key was looked up among the names, and this part of its value is next
+pub record EntryIs (i : ℕ) (names : List Name) (at : ℕ) (q : Part) (old new : TreeFormat) : Type 0 where
+  pub part : new.part ≡ q
   pub key : LooksUp (key_tree (slice_get (pairs_in (tree_of old.top.now)) i)) names at
   pub value : option_map (λ e. e.1) (slice_get (pairs_in (tree_of old.top.now)) i) ≡ Some (tree_of new.node.now)
   pub moves : Moves i old new
 
 -- The next key was looked up, or the next item is a field by its position. A format that looks for the first error may go to another entry.
 abbrev pub PicksAt : Option FrameKind → TreeFormat → List Name → ℕ → TreeFormat → Type 0
-PicksAt (Some k.Fields) old names at new = (i : ℕ) × EntryIs i names at old new × (IsPlain old → i ≡ count_of old)
+PicksAt (Some k.Fields) old names at new = (i : ℕ) × EntryIs i names at p.Value old new × (IsPlain old → i ≡ count_of old)
 PicksAt (Some k.Places) old names at new = Comes old new
-PicksAt _ old names at new = EntryIs (count_of old) names at old new
+PicksAt _ old names at new = EntryIs (count_of old) names at p.Held old new
 
 -- a key was picked, or the text that was next was looked up
 abbrev pub Picks : TreeFormat → Bool → List Name → ℕ → TreeFormat → Type 0

@@ -1,5 +1,5 @@
 -- The texts that events have.
-use Rattle.std.specs.Prelude.{◌≡◌, ⊤, ℕ, Bool, true, false, ◌||◌, List, [], ◌∷◌, take, Option, Some, IfSome, string_bytes, Result, Ok, Err, OnOk}
+use Rattle.std.specs.Prelude.{◌≡◌, ◌⊎◌, ⊤, ℕ, Bool, true, false, ◌||◌, List, [], ◌∷◌, take, Option, Some, IfSome, string_bytes, Result, Ok, Err, OnOk}
 use Rattle.std.specs.List.{All}
 use Rattle.std.specs.Io.KnownBytes.{Appends}
 use Rattle.std.specs.declared.string.String.{String}
@@ -40,6 +40,10 @@ Leads config es s = (shown : List Event) × AreShown es shown × (all_sent confi
 -- if the events are known, this is their text
 abbrev pub IsTextOf : Config → Log → List ℕ → Type 0
 IsTextOf config log bytes = ∥ IfSome log (λ es. (shown : List Event) × AreShown es shown × (text_of_sent config shown ≡ Some bytes)) ∥₁
+
+-- the same, or there is no text
+abbrev pub IsTextOrNone : Config → Log → List ℕ → Type 0
+IsTextOrNone config log bytes = ∥ (bytes ≡ []) ⊎ IfSome log (λ es. (shown : List Event) × AreShown es shown × (text_of_sent config shown ≡ Some bytes)) ∥₁
 
 -- it is the text of whole entries
 abbrev pub IsTextOfEntries : Config → List ℕ → Type 0

@@ -24,7 +24,7 @@ pub use calls::{
     to_string_with, to_writer, to_writer_with,
 };
 pub use qs_tree::{ArrayFormat, Config, DuplicateKeyBehavior, Error, Result};
-pub use reading::{Mark, PathError, TreeFormat};
+pub use reading::{Mark, PathError, TreeFormat, values_of_steps};
 pub use writing::{
     Halt, Settings, TextSerializer, events_of_data, texts_without_floats, worked_texts,
 };

@@ -12,3 +12,5 @@ mod helpers;
 mod misplaced;
 #[cfg(test)]
 mod numbers;
+#[cfg(test)]
+mod writers;

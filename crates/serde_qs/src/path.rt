@@ -1,5 +1,7 @@
 //! The path to a part that isn't read, and an error with its path.
 
+ghost use Rattle.std.specs.Prelude.{◌≡◌, ◌↔◌, [], IfOk, IsErr, IsFalse, IsTrue};
+
 use qs_data::{Error, Result};
 use qs_tree::Key;
 use std::alloc::{AllocError, Global};
@@ -72,7 +74,10 @@ impl Path {
         &mut self,
         read: Result<T>,
         step: Step,
-    ) -> Result<bool, AllocError> {
+    ) -> Result<bool, AllocError>
+        ensures unread { IfOk result (λ b. IsTrue b ↔ IsErr read) }
+        ensures clears { IfOk result (λ b. IsFalse b → self.new.steps.items ≡ []) }
+    {
         match read {
             Ok(_) => {
                 self.steps.clear();

@@ -9,6 +9,12 @@ IsCustomOrOutOfMemory (Custom message) = ⊤
 IsCustomOrOutOfMemory OutOfMemory = ⊤
 IsCustomOrOutOfMemory _ = ⊥
 
+-- the error says that a text isn't UTF-8, or that an allocation failed
+abbrev pub IsUtf8OrOutOfMemory : Error → Type 0
+IsUtf8OrOutOfMemory (Utf8 cause) = ⊤
+IsUtf8OrOutOfMemory OutOfMemory = ⊤
+IsUtf8OrOutOfMemory _ = ⊥
+
 -- the error says that a tree doesn't fit a shape, that a text isn't UTF-8, or that an allocation failed
 abbrev pub IsOfReading : Error → Type 0
 IsOfReading (Custom message) = ⊤

@@ -12,78 +12,30 @@ pub(crate) fn same_data(left: &Data, right: &Data) -> bool
     ensures { result ≡ data_same (data_of left.now) (data_of right.now) }
 {
     match left {
-        Data::Unit => match right {
-            Data::Unit => true,
-            _ => false,
-        },
-        Data::None => match right {
-            Data::None => true,
-            _ => false,
-        },
-        Data::Some(left) => match right {
-            Data::Some(right) => same_data(left, right),
-            _ => false,
-        },
-        Data::Bool(left) => match right {
-            Data::Bool(right) => left == right,
-            _ => false,
-        },
-        Data::Unsigned(left) => match right {
-            Data::Unsigned(right) => left == right,
-            _ => false,
-        },
-        Data::Signed(left) => match right {
-            Data::Signed(right) => left == right,
-            _ => false,
-        },
-        Data::Char(left) => match right {
-            Data::Char(right) => left == right,
-            _ => false,
-        },
-        Data::Text(left) => match right {
-            Data::Text(right) => left == right,
-            _ => false,
-        },
-        Data::Bytes(left) => match right {
-            Data::Bytes(right) => left == right,
-            _ => false,
-        },
-        Data::Seq(left) => match right {
-            Data::Seq(right) => same_items(left, right),
-            _ => false,
-        },
-        Data::Tuple(left) => match right {
-            Data::Tuple(right) => same_items(left, right),
-            _ => false,
-        },
-        Data::Map(left) => match right {
-            Data::Map(right) => same_pairs(left, right),
-            _ => false,
-        },
-        Data::Struct(left) => match right {
-            Data::Struct(right) => same_members(left, right),
-            _ => false,
-        },
-        Data::Newtype(left) => match right {
-            Data::Newtype(right) => same_data(left, right),
-            _ => false,
-        },
-        Data::UnitVariant(left) => match right {
-            Data::UnitVariant(right) => left == right,
-            _ => false,
-        },
-        Data::NewtypeVariant(name, left) => match right {
-            Data::NewtypeVariant(other, right) => name == other && same_data(left, right),
-            _ => false,
-        },
-        Data::TupleVariant(name, left) => match right {
-            Data::TupleVariant(other, right) => name == other && same_items(left, right),
-            _ => false,
-        },
-        Data::StructVariant(name, left) => match right {
-            Data::StructVariant(other, right) => name == other && same_members(left, right),
-            _ => false,
-        },
+        Data::Unit => matches!(right, Data::Unit),
+        Data::None => matches!(right, Data::None),
+        Data::Some(left) => matches!(right, Data::Some(right) if same_data(left, right)),
+        Data::Bool(left) => matches!(right, Data::Bool(right) if left == right),
+        Data::Unsigned(left) => matches!(right, Data::Unsigned(right) if left == right),
+        Data::Signed(left) => matches!(right, Data::Signed(right) if left == right),
+        Data::Char(left) => matches!(right, Data::Char(right) if left == right),
+        Data::Text(left) => matches!(right, Data::Text(right) if left == right),
+        Data::Bytes(left) => matches!(right, Data::Bytes(right) if left == right),
+        Data::Seq(left) => matches!(right, Data::Seq(right) if same_items(left, right)),
+        Data::Tuple(left) => matches!(right, Data::Tuple(right) if same_items(left, right)),
+        Data::Map(left) => matches!(right, Data::Map(right) if same_pairs(left, right)),
+        Data::Struct(left) => matches!(right, Data::Struct(right) if same_members(left, right)),
+        Data::Newtype(left) => matches!(right, Data::Newtype(right) if same_data(left, right)),
+        Data::UnitVariant(left) => matches!(right, Data::UnitVariant(right) if left == right),
+        Data::NewtypeVariant(name, left) => {
+            matches!(right, Data::NewtypeVariant(other, right) if name == other && same_data(left, right))
+        }
+        Data::TupleVariant(name, left) => {
+            matches!(right, Data::TupleVariant(other, right) if name == other && same_items(left, right))
+        }
+        Data::StructVariant(name, left) => {
+            matches!(right, Data::StructVariant(other, right) if name == other && same_members(left, right))
+        }
     }
 }
 

@@ -1,6 +1,6 @@
 //! Reading one value: a boolean, a number, a character, a text or bytes.
 
-ghost use Rattle.std.specs.Prelude.{◌≡◌, [], Some, None, true, option_map};
+ghost use Rattle.std.specs.Prelude.{◌≡◌, [], IfErr, Some, None, true, option_map};
 ghost use Rattle.std.specs.Str.{is_utf8};
 ghost use Rattle.qs_spec.specs.Data as d;
 ghost use Rattle.qs_spec.specs.Scalar.{boolean_data, unsigned_data, signed_data, character_data, text_data, unsigned_number, signed_number};
@@ -9,7 +9,7 @@ ghost use Rattle.qs_spec.specs.internal.ReadFunction.{read_scalar, read_unit, re
 ghost use Rattle.qs_tree.specs.tree.Views.{tree_of, items_from};
 ghost use Rattle.qs_data.specs.data.Views.{data_of};
 ghost use Rattle.qs_data.specs.read.TreeText.{is_text};
-ghost use Rattle.qs_data.specs.read.internal.ReadError.{ReadGives, ReadIsFrugal};
+ghost use Rattle.qs_data.specs.read.internal.ReadError.{ReadGives, ReadIsFrugal, ReadIsUtf8};
 ghost use Rattle.qs_data.specs.shape.Widths.{bits_of};
 ghost use Rattle.qs_data.specs.read.internal.GivenText.{given_text, utf8_text};
 ghost use Rattle.std.specs.Prelude.{map};
@@ -167,9 +167,10 @@ fn item_text<'t>(alloc: Global, value: &'t ParsedValue<'_>, expected: Expected) 
 
 /// Returns bytes as text, if they are UTF-8.
 #[inline(always)]
-#[tactic(auto, using(crate::proofs::lemmas::read::Errors::utf8_tests))]
+#[tactic(auto, using(crate::proofs::lemmas::read::Errors::utf8_tests, crate::proofs::lemmas::read::ReadErrors::passed_utf8))]
 pub(crate) fn as_text(alloc: Global, bytes: &[u8]) -> Result<&str>
     ensures gives { ReadGives (λ s. s.now) (is_utf8 bytes.now) result (utf8_text bytes.now) }
+    ensures utf8 { IfErr result ReadIsUtf8 }
     ensures frugal { ReadIsFrugal result (utf8_text bytes.now) }
 {
     match str::from_utf8(bytes) {

@@ -1,11 +1,12 @@
 //! Calls that write.
 
-ghost use Rattle.std.specs.Prelude.{◌≡◌, ◌⊎◌, ◌<◌, ℕ, length, take, string_bytes, ⊤, IsOkAnd, OnOk};
+ghost use Rattle.std.specs.Prelude.{◌≡◌, ◌⊎◌, ◌<◌, ℕ, length, take, string_bytes};
 ghost use Rattle.std.specs.List.{All};
 ghost use Rattle.std.specs.Io.KnownBytes.{Appends};
 ghost use Rattle.qs_spec.specs.Config.{default};
 ghost use Rattle.qs_tree.specs.Error.{IsIo};
 ghost use Rattle.qs_data.specs.write.State.{IsVisible};
+ghost use Rattle.qs_serde.specs.Halts.{HasFailed, IsFinish};
 ghost use Rattle.qs_serde.specs.Texts.{ReturnsTextOf, WritesTextOf};
 
 use crate::writing::{Halt, Settings, TextSerializer};
@@ -29,7 +30,7 @@ use std::marker::Brand;
 /// - [`Unsupported`](Error::Unsupported): a map's key isn't a value of one text.
 /// - [`Custom`](Error::Custom): the type's own code rejects the value, or writes a map's value without its key, or a key in place of a
 ///   value; or what is flattened is neither a map nor a struct.
-/// - [`Failed`](Error::Failed): the type's own code continued after one of these errors.
+/// - [`Failed`](Error::Failed): the type's own code hid one of these errors, or continued after it.
 /// - [`OutOfMemory`](Error::OutOfMemory): an allocation failed.
 ///
 /// It allocates for the text, for the longest path in it and for a stack of the open lists and maps. The time grows with the text.
@@ -79,18 +80,24 @@ fn write_text<K: Settings, T: Serialize>(alloc: Global, config: Config, value: &
     let text = Vec::with_capacity(alloc, 128)?;
     let mut serializer: TextSerializer<K> = TextSerializer::over(alloc, config, text);
     let made = value.serialize(&mut serializer);
-    finished(config, made)?;
+    finished(&serializer, config, made)?;
     Ok(string_of(serializer.into_text()))
 }
 
-// Returns the result of a serializer's last step as the result of a call.
+// Returns the result of a serializer's last step as the result of a call. It is an error if an event wasn't written, even if the type's
+// own code hid that.
 #[inline(always)]
-fn finished(config: Config, made: Result<(), Halt>) -> Result<()>
-    ensures { OnOk result (IsOkAnd made (λ _. ⊤)) }
+fn finished<K: Settings>(
+    serializer: &TextSerializer<K>,
+    config: Config,
+    made: Result<(), Halt>,
+) -> Result<()>
+    ensures { IsFinish config (HasFailed serializer.now.position) made result }
 {
     match made {
-        Ok(()) => Ok(()),
         Err(halt) => Err(halt.into_error(config)),
+        Ok(()) if serializer.has_failed() => Err(Error::Failed),
+        Ok(()) => Ok(()),
     }
 }
 
@@ -131,7 +138,7 @@ fn write_to<K: Settings, T: Serialize, W: Write>(
 {
     let mut serializer: TextSerializer<K> = TextSerializer::new(alloc, config)?;
     let sent = value.serialize(&mut serializer);
-    let made = finished(config, sent);
+    let made = finished(&serializer, config, sent);
     if let Err(Error::OutOfMemory) = made {
         return made;
     }

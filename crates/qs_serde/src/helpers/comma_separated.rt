@@ -1,6 +1,6 @@
 //! Lists in one text, with commas between the items.
 
-ghost use Rattle.std.specs.Prelude.{ℕ, List, OnOk};
+ghost use Rattle.std.specs.Prelude.{◌≡◌, ◌↔◌, ℕ, List, [], IfOk};
 ghost use Rattle.serde.specs.Event.{text};
 ghost use Rattle.serde.specs.Steps.{Gives};
 
@@ -29,7 +29,7 @@ pub fn deserialize<T: DeserializeOwned, F: Format>(
     alloc: Global,
     from: &mut Deserializer<'_, '_, F>,
 ) -> Result<Vec<T>, F::Error>
-    ensures { OnOk result ((t : List ℕ) × Gives F.gives from.old (text t) from.new) }
+    ensures { IfOk result (λ items. (t : List ℕ) × Gives F.gives from.old (text t) from.new × ((t ≡ []) ↔ (items.items ≡ []))) }
 {
     generic_delimiter::deserialize(alloc, ',', from)
 }

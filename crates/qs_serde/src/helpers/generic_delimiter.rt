@@ -1,6 +1,6 @@
 //! Lists in one text, with a delimiter of the caller's choice.
 
-ghost use Rattle.std.specs.Prelude.{ℕ, List, OnOk};
+ghost use Rattle.std.specs.Prelude.{◌≡◌, ◌↔◌, ℕ, List, [], IfOk};
 ghost use Rattle.serde.specs.Event.{text};
 ghost use Rattle.serde.specs.Steps.{Gives};
 
@@ -32,8 +32,8 @@ pub fn serialize<T: Display, S: Serializer>(
     out.collect_str(&Joined { items, delimiter })
 }
 
-/// Reads a text as a list. The empty text is the empty list. In any other text each piece between delimiters is an item, which is read like
-/// a value of one text in a querystring.
+/// Reads a text as a list. The empty text, and no other, is the empty list. In any other text each piece between delimiters is an item, which
+/// is read like a value of one text in a querystring.
 ///
 /// ```
 /// mod dotted {
@@ -51,7 +51,7 @@ pub fn deserialize<T: DeserializeOwned, F: Format>(
     delimiter: char,
     from: &mut Deserializer<'_, '_, F>,
 ) -> std::result::Result<Vec<T>, F::Error>
-    ensures { OnOk result ((t : List ℕ) × Gives F.gives from.old (text t) from.new) }
+    ensures { IfOk result (λ items. (t : List ℕ) × Gives F.gives from.old (text t) from.new × ((t ≡ []) ↔ (items.items ≡ []))) }
 {
     let text = from.string(alloc)?;
     match listed(alloc, text.as_str(), delimiter) {
@@ -83,7 +83,9 @@ impl<'a, T: Display> Display for Joined<'a, T> {
 }
 
 // Returns the items of a text.
-fn listed<T: DeserializeOwned>(alloc: Global, text: &str, delimiter: char) -> Result<Vec<T>> {
+fn listed<T: DeserializeOwned>(alloc: Global, text: &str, delimiter: char) -> Result<Vec<T>>
+    ensures { IfOk result (λ items. (text.now ≡ []) ↔ (items.items ≡ [])) }
+{
     let mut items = Vec::new(alloc);
     if text.is_empty() {
         return Ok(items);

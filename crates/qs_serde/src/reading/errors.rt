@@ -2,7 +2,8 @@
 
 #![tactic(auto, using(crate::proofs::Errors::step_errors))]
 
-ghost use Rattle.std.specs.Prelude.{Bool};
+ghost use Rattle.std.specs.Prelude.{◌≡◌, ◌≢◌, ◌⊎◌, Bool};
+ghost use Rattle.qs_data.specs.declared.read.error.ReadError.TheVariants.{OutOfMemory};
 ghost use Rattle.std.specs.Str.{is_utf8};
 ghost use Rattle.qs_tree.specs.tree.Views.{tree_of};
 ghost use Rattle.qs_data.specs.read.internal.ReadError.{ReadIsCustom};
@@ -171,7 +172,8 @@ impl<'t, 'qs> TreeFormat<'t, 'qs> {
     #[cold]
     #[inline(never)]
     pub(crate) fn hinted(&self, node: Node<'t, 'qs>, error: ReadError) -> ReadError
-        ensures { (all_text : Bool) → IsStepError all_text error → IsStepError all_text result }
+        ensures step { (all_text : Bool) → IsStepError all_text error → IsStepError all_text result }
+        ensures hinted { (result ≡ error) ⊎ (ReadIsCustom result × (error ≢ OutOfMemory)) }
     {
         if !node.has_bracket() || matches!(error, ReadError::OutOfMemory) {
             return error;

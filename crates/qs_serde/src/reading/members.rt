@@ -2,13 +2,14 @@
 
 #![tactic(auto, using(crate::proofs::Errors::step_errors))]
 
-ghost use Rattle.std.specs.Prelude.{◌≡◌, true, ℕ, ◌≢◌, [], Ok, None, Some, IfErr, IfOk, OnOk, IfSome, IfNone, MatchBool, MatchOption, slice_get};
+ghost use Rattle.std.specs.Prelude.{◌≡◌, true, ℕ, ◌≢◌, [], Ok, None, Some, IfErr, IfOk, OnOk, IfSome, IfNone, MatchBool, MatchOption, drop, slice_get};
 ghost use Rattle.serde.specs.Event.{map_ends};
 ghost use Rattle.qs_tree.specs.tree.Views.{tree_of};
-ghost use Rattle.qs_data.specs.read.internal.ReadError.{ReadGives};
+ghost use Rattle.qs_data.specs.read.internal.ReadError.{ReadGives, ReadRejects};
+ghost use Rattle.qs_data.specs.read.Items.{first_item};
 ghost use Rattle.qs_data.specs.read.TreeText.{is_text};
 ghost use Rattle.qs_serde.specs.Errors.{FailsOn, IsStepError};
-ghost use Rattle.qs_serde.specs.Nodes.{pairs_in};
+ghost use Rattle.qs_serde.specs.Nodes.{listed, pairs_in};
 ghost use Rattle.qs_serde.specs.Places.{count_of, kind_of};
 ghost use Rattle.qs_serde.specs.Steps.{Comes, EntryComes, EntryIs, HasNoItem, HasParts, Leaves, Picks, Reads, next_node, next_struct};
 
@@ -25,7 +26,7 @@ impl<'t, 'qs> TreeFormat<'t, 'qs> {
     #[inline(always)]
     #[tactic(auto, using(crate::proofs::Places::item_child, crate::proofs::Errors::step_errors))]
     pub(crate) fn go_to_item(&mut self, frame: Frame) -> Result<bool>
-        ensures errors { IfErr result (IsStepError true) }
+        ensures errors { IfErr result (λ e. IsStepError true e × ReadRejects true e (first_item (drop frame.next (listed (tree_of self.old.top.now))))) }
         ensures step { kind_of self.old ≡ Some frame.kind → count_of self.old ≡ frame.next → IfOk result (λ b. MatchBool b (Comes self.old self.new) (HasNoItem self.old × Leaves self.old self.new)) }
     {
         match item_at(self.reader, self.top, frame.next) {
@@ -91,7 +92,7 @@ impl<'t, 'qs> TreeFormat<'t, 'qs> {
         frame: Frame,
         part: Part,
     ) -> Result<Option<usize>>
-        ensures some { kind_of self.old ≡ Some frame.kind → IfOk result (λ o. IfSome o (λ at. EntryIs frame.next names.now at self.old self.new)) }
+        ensures some { kind_of self.old ≡ Some frame.kind → IfOk result (λ o. IfSome o (λ at. EntryIs frame.next names.now at part self.old self.new)) }
         ensures none { IfOk result (λ o. IfNone o ((slice_get (pairs_in (tree_of self.old.top.now)) frame.next ≡ None) × Leaves self.old self.new)) }
         ensures errors { FailsOn (tree_of self.old.top.now) result }
     {
@@ -150,7 +151,7 @@ impl<'t, 'qs> TreeFormat<'t, 'qs> {
     /// last.
     fn go_to_field(&mut self, names: &[Name<'_>], frame: Frame) -> Result<Option<usize>>
         ensures errors { FailsOn (tree_of self.old.top.now) result }
-        ensures some { kind_of self.old ≡ Some frame.kind → IfOk result (λ o. IfSome o (λ at. (i : ℕ) × EntryIs i names.now at self.old self.new)) }
+        ensures some { kind_of self.old ≡ Some frame.kind → IfOk result (λ o. IfSome o (λ at. (i : ℕ) × EntryIs i names.now at Part.Value self.old self.new)) }
         ensures none { IfOk result (λ o. IfNone o (Leaves self.old self.new)) }
     {
         match self.field_after(names, frame) {
@@ -200,7 +201,7 @@ impl<'t, 'qs> TreeFormat<'t, 'qs> {
     /// Goes to the next entry of a map that names a variant or is shared, and returns the index of the name that its key matches. At the
     /// end of an enum there are no names: its map ends, and the other keys are passed over.
     fn go_to_shared(&mut self, names: &[Name<'_>], frame: Frame) -> Result<Option<usize>>
-        ensures some { kind_of self.old ≡ Some frame.kind → IfOk result (λ o. IfSome o (λ at. EntryIs frame.next names.now at self.old self.new)) }
+        ensures some { kind_of self.old ≡ Some frame.kind → IfOk result (λ o. IfSome o (λ at. EntryIs frame.next names.now at Part.Held self.old self.new)) }
         ensures none { IfOk result (λ o. IfNone o (Leaves self.old self.new)) }
         ensures whole { names.now ≢ [] → IfOk result (λ o. IfNone o (slice_get (pairs_in (tree_of self.old.top.now)) frame.next ≡ None)) }
         ensures end { names.now ≡ [] → result ≡ Ok None }

@@ -1,6 +1,7 @@
 //! Names, and the texts and keys that match them.
 
-ghost use Rattle.std.specs.Prelude.{◌≡◌, ◌≤◌, ◌↔◌, false, decimal, HoldsAt, IfSome, IsTrue};
+ghost use Rattle.std.specs.Prelude.{◌≡◌, ◌≤◌, ◌↔◌, false, decimal, HoldsAt, IfSome, IsTrue, true};
+ghost use Rattle.std.specs.Str.{is_utf8};
 ghost use Rattle.serde.specs.Names.{StandsFor};
 ghost use Rattle.qs_spec.specs.Segment.{segment_text};
 ghost use Rattle.qs_tree.specs.tree.Views.{segment_of_key, tree_of};
@@ -30,7 +31,7 @@ pub(crate) fn find_node(names: &[Name<'_>], node: Node<'_, '_>) -> Option<usize>
 // Returns the index of the name that a key matches.
 #[inline(always)]
 fn find_key(names: &[Name<'_>], key: &Key<'_>) -> Option<usize>
-    ensures { IfSome result (λ at. FindsText names.now (segment_text (segment_of_key key.now)) at) }
+    ensures { IfSome result (λ at. FindsText names.now (segment_text (segment_of_key key.now)) at × (is_utf8 (segment_text (segment_of_key key.now)) ≡ true)) }
 {
     match key {
         Key::Int(number) => Some(find_number(names, *number)),
@@ -52,8 +53,9 @@ fn find_value(names: &[Name<'_>], value: &ParsedValue<'_>) -> Option<usize>
 
 // Returns the index of the name that a text matches.
 #[inline(always)]
+#[tactic(auto, using(qs_data::proofs::lemmas::read::Errors::utf8_tests))]
 fn find_text(names: &[Name<'_>], text: &[u8]) -> Option<usize>
-    ensures { IfSome result (λ at. FindsText names.now text.now at) }
+    ensures { IfSome result (λ at. FindsText names.now text.now at × (is_utf8 text.now ≡ true)) }
 {
     if let Some(at) = find_same(names, text) {
         return Some(at);
@@ -66,7 +68,7 @@ fn find_text(names: &[Name<'_>], text: &[u8]) -> Option<usize>
 
 // Returns the index of the name that is this text, if each name up to it is matched only by itself. Such a text is UTF-8.
 fn find_same(names: &[Name<'_>], text: &[u8]) -> Option<usize>
-    ensures { IfSome result (λ at. FindsText names.now text.now at) }
+    ensures { IfSome result (λ at. FindsText names.now text.now at × (is_utf8 text.now ≡ true)) }
 {
     for at in 0..names.len() {
         if is_same(&names[at], text)? {
@@ -79,7 +81,8 @@ fn find_same(names: &[Name<'_>], text: &[u8]) -> Option<usize>
 // Returns whether a name is this text, if it is matched only by itself.
 #[inline(always)]
 fn is_same(name: &Name<'_>, text: &[u8]) -> Option<bool>
-    ensures { IfSome result (λ b. IsTrue b ↔ StandsFor text.now name.now) }
+    ensures stands { IfSome result (λ b. IsTrue b ↔ StandsFor text.now name.now) }
+    ensures utf8 { IfSome result (λ b. IsTrue b → is_utf8 text.now ≡ true) }
 {
     if name.skipped {
         return None;
@@ -90,17 +93,21 @@ fn is_same(name: &Name<'_>, text: &[u8]) -> Option<bool>
     if !name.aliases.is_empty() {
         return None;
     }
-    Some(name.name.as_bytes() == text)
+    let name = name.name;
+    Some(name.as_bytes() == text)
 }
 
 // Returns the index of the name that the digits of a number match.
 #[inline(never)]
-#[tactic(auto, unfolding(crate::specs::Lookups::FindsText))]
+#[tactic(auto, using(qs_data::proofs::lemmas::read::Errors::utf8_tests), unfolding(crate::specs::Lookups::FindsText))]
 fn find_number(names: &[Name<'_>], number: u32) -> usize
-    ensures { FindsText names.now (decimal number) result }
+    ensures find { FindsText names.now (decimal number) result }
+    ensures utf8 { is_utf8 (decimal number) ≡ true }
 {
     let mut buffer = Buffer::new();
-    serde::find(names, buffer.format(number))
+    let digits = buffer.format(number);
+    let _text = digits.as_bytes();
+    serde::find(names, digits)
 }
 
 /// Returns the index of the first name, from an index on, that isn't skipped.

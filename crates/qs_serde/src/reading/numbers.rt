@@ -2,20 +2,21 @@
 
 #![tactic(auto, using(crate::proofs::Errors::step_errors))]
 
-ghost use Rattle.std.specs.Prelude.{◌≡◌, Bool, false, ◌⊎◌, ◌^◌, ◌≤◌, pos, negsuc, ◌<ℤ◌, IfOk, IfSome, OnOk, Some};
+ghost use Rattle.std.specs.Prelude.{◌≡◌, Bool, false, IfSome, Some};
 ghost use Rattle.qs_spec.specs.Data as d;
 ghost use Rattle.qs_spec.specs.Shape as s;
 ghost use Rattle.qs_data.specs.read.Reads.{reads};
 ghost use Rattle.qs_serde.specs.Errors.{FailsOn};
 ghost use Rattle.qs_serde.specs.Nodes.{node_tree};
 ghost use Rattle.qs_serde.specs.Places.{tree_at};
-ghost use Rattle.qs_serde.specs.Steps.{HasText, Is, IsPlain, Notes, Takes};
+ghost use Rattle.qs_serde.specs.Steps.{IsPlain, Notes, Returns, ReturnsParsed, Takes};
 
 use super::Result;
+use super::data::{as_signed, as_unsigned};
 use super::format::{Asked, Search, TreeFormat};
 use super::node::Node;
 use super::scalars::plain_text;
-use qs_data::{Data, Shape, Width};
+use qs_data::{Shape, Width};
 use std::str;
 
 impl Search {
@@ -54,10 +55,11 @@ fn past_signed(width: Width) -> i64 {
 }
 
 impl<'t, 'qs> TreeFormat<'t, 'qs> {
-    /// Reads a signed number.
+    /// Reads a signed number of 64 bits.
+    #[tactic(auto, using(crate::proofs::Errors::step_errors, crate::proofs::Borrowed::signed_only))]
     pub(crate) fn signed(&mut self) -> Result<i64>
         ensures notes { Notes self.old self.new }
-        ensures number { IsPlain self.old → IfOk result (λ v. Is self.old (s.Shape.signed 64) (d.signed v)) }
+        ensures number { IsPlain self.old → Returns d.signed self.old (s.Shape.signed 64) result }
         ensures errors { FailsOn (tree_at self.old) result }
     {
         let asked = Asked::Signed(self.part);
@@ -69,16 +71,18 @@ impl<'t, 'qs> TreeFormat<'t, 'qs> {
         if let Some(number) = plain_signed(node) {
             return Ok(number);
         }
-        match self.read_key(node, &Shape::I64)? {
-            Data::Signed(value) => Ok(value),
-            _ => Err(self.no_value()),
+        let data = self.read_key(node, &Shape::I64)?;
+        match as_signed(data) {
+            Some(number) => Ok(number),
+            None => Err(self.no_value()),
         }
     }
 
-    /// Reads an unsigned number.
+    /// Reads an unsigned number of 64 bits.
+    #[tactic(auto, using(crate::proofs::Errors::step_errors, crate::proofs::Borrowed::unsigned_only))]
     pub(crate) fn unsigned(&mut self) -> Result<u64>
         ensures notes { Notes self.old self.new }
-        ensures number { IsPlain self.old → IfOk result (λ v. Is self.old (s.Shape.unsigned 64) (d.unsigned v)) }
+        ensures number { IsPlain self.old → Returns d.unsigned self.old (s.Shape.unsigned 64) result }
         ensures errors { FailsOn (tree_at self.old) result }
     {
         let asked = Asked::Unsigned(self.part);
@@ -90,37 +94,10 @@ impl<'t, 'qs> TreeFormat<'t, 'qs> {
         if let Some(number) = plain_unsigned(node) {
             return Ok(number);
         }
-        match self.read_key(node, &Shape::U64)? {
-            Data::Unsigned(value) => Ok(value),
-            _ => Err(self.no_value()),
-        }
-    }
-
-    /// Reads an unsigned number that 64 bits don't hold.
-    pub(crate) fn wide_unsigned(&mut self) -> Result<u128>
-        ensures takes { Takes self.old self.new }
-        ensures number { IfOk result (λ n. 2 ^ 64 ≤ n) }
-        ensures errors { FailsOn (tree_at self.old) result }
-    {
-        let wide: u128 = self.parsed()?;
-        if wide > u64::MAX as u128 {
-            Ok(wide)
-        } else {
-            Err(self.no_value())
-        }
-    }
-
-    /// Reads a signed number that 64 bits don't hold.
-    pub(crate) fn wide_signed(&mut self) -> Result<i128>
-        ensures takes { Takes self.old self.new }
-        ensures number { IfOk result (λ z. (pos 9223372036854775807 <ℤ z) ⊎ (z <ℤ negsuc 9223372036854775807)) }
-        ensures errors { FailsOn (tree_at self.old) result }
-    {
-        let wide: i128 = self.parsed()?;
-        if wide > i64::MAX as i128 || wide < i64::MIN as i128 {
-            Ok(wide)
-        } else {
-            Err(self.no_value())
+        let data = self.read_key(node, &Shape::U64)?;
+        match as_unsigned(data) {
+            Some(number) => Ok(number),
+            None => Err(self.no_value()),
         }
     }
 
@@ -129,10 +106,11 @@ impl<'t, 'qs> TreeFormat<'t, 'qs> {
     where
         T::Err: Drop,
         ensures takes { Takes self.old self.new }
-        ensures text { OnOk result (HasText self.old) }
+        ensures parsed { ReturnsParsed T.from_str_gives self.old result }
         ensures errors { FailsOn (tree_at self.old) result }
     {
-        match self.text()?.as_str().parse::<T>() {
+        let text = self.text()?;
+        match text.as_str().parse::<T>() {
             Ok(value) => Ok(value),
             Err(_) => Err(self.no_number()),
         }

@@ -11,12 +11,15 @@ ghost use Rattle.qs_data.specs.data.Views.{data_of};
 ghost use Rattle.qs_data.specs.shape.Views.{shape_of};
 ghost use Rattle.qs_tree.specs.tree.Views.{items_from, tree_of};
 ghost use Rattle.qs_data.specs.read.Reads.{reads};
+ghost use Rattle.qs_data.specs.read.internal.ReadError.{ReadGives, ReadIsUtf8};
+ghost use Rattle.qs_data.specs.read.TreeText.{is_text};
 ghost use Rattle.qs_data.specs.read.internal.GivenText.{given_text};
 ghost use Rattle.qs_serde.specs.Errors.{FailsOn, IsStepError};
 ghost use Rattle.qs_serde.specs.Nodes.{node_tree};
 ghost use Rattle.qs_serde.specs.Places.{tree_at};
-ghost use Rattle.qs_serde.specs.Steps.{Is, Takes};
+ghost use Rattle.qs_serde.specs.Steps.{Returns, Takes};
 
+use super::data::as_text;
 use super::format::TreeFormat;
 use super::node::Node;
 use super::{ReadError, Result};
@@ -32,7 +35,7 @@ impl<'t, 'qs> TreeFormat<'t, 'qs> {
     #[inline(never)]
     pub(crate) fn read_key(&self, node: Node<'t, 'qs>, shape: &Shape) -> Result<Data>
         ensures errors { FailsOn (node_tree node.entry) result }
-        ensures data { IfOk result (λ v. reads self.now.reader.reject_duplicates (shape_of shape.now) (node_tree node.entry) ≡ Some (data_of v)) }
+        ensures exact { ReadGives data_of (is_text (node_tree node.entry)) result (reads self.now.reader.reject_duplicates (shape_of shape.now) (node_tree node.entry)) }
     {
         match node.read(self.reader, shape) {
             Ok(data) => Ok(data),
@@ -43,27 +46,42 @@ impl<'t, 'qs> TreeFormat<'t, 'qs> {
     /// Reads what is next by a shape.
     pub(crate) fn by_shape(&mut self, shape: &Shape) -> Result<Data>
         ensures takes { Takes self.old self.new }
-        ensures data { IfOk result (λ v. Is self.old (shape_of shape.now) (data_of v)) }
+        ensures exact { Returns data_of self.old (shape_of shape.now) result }
         ensures errors { FailsOn (tree_at self.old) result }
     {
         let node = self.take();
         self.read_key(node, shape)
     }
 
+    /// Reads a node as a boolean.
+    #[inline(always)]
+    pub(crate) fn boolean(&self, node: Node<'t, 'qs>) -> Result<Data>
+        ensures { ReadGives data_of (is_text (node_tree node.entry)) result (reads self.now.reader.reject_duplicates s.Shape.boolean (node_tree node.entry)) }
+    {
+        match node {
+            Node::Value(value) => ReadError::of_result(
+                self.reader.alloc,
+                self.reader.boolean(value),
+            ),
+            _ => self.read_key(node, &Shape::Bool),
+        }
+    }
+
     /// Reads what is next as a text.
-    #[tactic(auto, using(crate::proofs::Errors::step_errors, crate::proofs::Borrowed::text_read))]
+    #[tactic(auto, using(crate::proofs::Errors::step_errors, crate::proofs::Borrowed::text_read, crate::proofs::Borrowed::text_only))]
     pub(crate) fn text(&mut self) -> Result<String>
         ensures takes { Takes self.old self.new }
-        ensures text { IfOk result (λ v. Is self.old s.Shape.text (d.text (string_bytes v))) }
+        ensures exact { Returns (λ v. d.text (string_bytes v)) self.old s.Shape.text result }
         ensures errors { FailsOn (tree_at self.old) result }
     {
         let node = self.take();
         if let Some(text) = plain_text(node) {
             return Ok(String::from_str(self.reader.alloc, text)?);
         }
-        match self.read_key(node, &Shape::Text)? {
-            Data::Text(text) => Ok(text),
-            _ => Err(self.no_value()),
+        let data = self.read_key(node, &Shape::Text)?;
+        match as_text(data) {
+            Some(text) => Ok(text),
+            None => Err(self.no_value()),
         }
     }
 
@@ -151,9 +169,10 @@ fn borrowed_item<'t>(item: &'t ParsedValue<'_>) -> Option<&'t [u8]>
 }
 
 /// Tests whether a text is UTF-8.
-#[tactic(auto, using(qs_data::proofs::lemmas::read::Errors::utf8_tests))]
+#[tactic(auto, using(qs_data::proofs::lemmas::read::Errors::utf8_tests, qs_data::proofs::lemmas::read::ReadErrors::passed_utf8))]
 pub(crate) fn test_utf8(alloc: Global, text: &[u8]) -> Result<()>
     ensures text { OnOk result (is_utf8 text.now ≡ true) }
+    ensures utf8 { IfErr result ReadIsUtf8 }
     ensures errors { IfErr result (IsStepError (is_utf8 text.now)) }
 {
     match str::from_utf8(text) {

@@ -1,23 +1,28 @@
 //! The steps of reading that serde calls.
 
-ghost use Rattle.std.specs.Prelude.{◌≡◌, ⊤, true, false, None, slice_range, string_bytes, IfErr, IfOk, IsOk, OnOk, IsTrue, MatchBool, MatchOption};
+ghost use Rattle.std.specs.Prelude.{◌≡◌, ◌↔◌, ⊤, true, false, None, IsSome, slice_range, string_bytes, IfErr, IfOk, IsOk, OnOk, IsTrue, MatchBool, MatchOption};
 ghost use Rattle.qs_spec.specs.Leaf.Leaf.{NoValue};
-ghost use Rattle.qs_spec.specs.Tree.Tree.{leaf};
+ghost use Rattle.qs_spec.specs.Tree.Tree.{leaf, uninitialized};
 ghost use Rattle.serde.specs.Event.{boolean, signed, unsigned, single, double, character, text, octets, key_begins, map_begins, map_ends, nothing, seq_begins, seq_ends};
 ghost use Rattle.qs_tree.specs.tree.Views.{tree_of};
-ghost use Rattle.qs_data.specs.read.internal.ReadError.{ReadRejects};
+ghost use Rattle.qs_data.specs.read.internal.ReadError.{ReadGives, ReadRejects};
+ghost use Rattle.qs_data.specs.declared.read.error.ReadError.TheVariants.{OutOfMemory};
+ghost use Rattle.std.specs.Float.{binary32, binary64};
+ghost use Rattle.qs_spec.specs.Data as d;
+ghost use Rattle.qs_spec.specs.Shape as s;
 ghost use Rattle.qs_data.specs.read.TreeText.{is_text};
 ghost use Rattle.qs_serde.specs.Errors.{FailsOn, IsStepError};
 ghost use Rattle.qs_serde.specs.Places.{tree_at};
-ghost use Rattle.qs_serde.specs.Steps.{BeginsAfterLook, BeginsStruct, HasNoEntry, HasNoItem, ComesBack, IsMark, Picks, Reads, Stays, Takes, next_entries, next_items, next_struct};
+ghost use Rattle.qs_serde.specs.Steps.{BeginsAfterLook, BeginsMap, BeginsStruct, Comes, Leaves, LooksInside, HasNoEntry, HasNoItem, IsPlain, next_float, next_item_of, ComesBack, IsMark, Picks, Reads, Returns, Stays, Takes, next_entries, next_items, next_struct};
 
+use super::data::{as_bool, as_bytes, as_char};
 use super::format::{Asked, Mark, TreeFormat};
 use super::frame::FrameKind;
 use super::names::find_node;
 use super::node::{Node, Part};
 use super::scalars::{borrowed_text, test_utf8};
 use super::{ReadError, Result};
-use qs_data::{Data, Shape};
+use qs_data::Shape;
 use qs_tree::ParsedValue;
 use serde::{Format, Kind, Name};
 use std::alloc::Global;
@@ -34,87 +39,74 @@ impl<'t, 'qs> Format for TreeFormat<'t, 'qs> {
 
     ghost stays = { Stays };
 
+    #[tactic(auto, using(crate::proofs::Errors::step_errors, crate::proofs::Borrowed::boolean_only))]
     fn bool(&mut self, _input: &[u8]) -> Result<bool>
         ensures step { IfOk result (λ v. Reads self.old (boolean v) self.new) }
-        ensures errors { FailsOn (tree_at self.old) result }
+        ensures exact { Returns d.boolean self.old s.Shape.boolean result }
     {
-        let read = match self.take() {
-            Node::Value(value) => ReadError::of_result(
-                self.reader.alloc,
-                self.reader.boolean(value),
-            ),
-            node => self.read_key(node, &Shape::Bool),
-        };
-        match read? {
-            Data::Bool(value) => Ok(value),
-            _ => Err(self.no_value()),
+        let node = self.take();
+        let data = self.boolean(node)?;
+        match as_bool(data) {
+            Some(value) => Ok(value),
+            None => Err(self.no_value()),
         }
     }
 
+    #[tactic(auto, using(crate::proofs::ReadNumbers::signed_wider))]
     fn i64(&mut self, _input: &[u8]) -> Result<i64>
         ensures step { IfOk result (λ v. Reads self.old (signed v) self.new) }
+        ensures exact { IsPlain self.old → Returns d.signed self.old (s.Shape.signed 64) result }
         ensures errors { FailsOn (tree_at self.old) result }
     {
         self.signed()
     }
 
+    #[tactic(auto, using(crate::proofs::ReadNumbers::unsigned_wider))]
     fn u64(&mut self, _input: &[u8]) -> Result<u64>
         ensures step { IfOk result (λ v. Reads self.old (unsigned v) self.new) }
+        ensures exact { IsPlain self.old → Returns d.unsigned self.old (s.Shape.unsigned 64) result }
         ensures errors { FailsOn (tree_at self.old) result }
     {
         self.unsigned()
     }
 
-    // A number that 64 bits hold is read as `i64` reads it.
     fn i128(&mut self, _input: &[u8]) -> Result<i128>
         ensures step { IfOk result (λ v. Reads self.old (signed v) self.new) }
-        ensures errors { FailsOn (tree_at self.old) result }
+        ensures exact { Returns d.signed self.old (s.Shape.signed 128) result }
     {
-        let part = self.part;
-        match self.signed() {
-            Ok(value) => return Ok(i128::from(value)),
-            Err(ReadError::OutOfMemory) => return Err(ReadError::OutOfMemory),
-            Err(_) => {}
-        }
-        self.part = part;
-        self.wide_signed()
+        self.parsed()
     }
 
     fn u128(&mut self, _input: &[u8]) -> Result<u128>
         ensures step { IfOk result (λ v. Reads self.old (unsigned v) self.new) }
-        ensures errors { FailsOn (tree_at self.old) result }
+        ensures exact { Returns d.unsigned self.old (s.Shape.unsigned 128) result }
     {
-        let part = self.part;
-        match self.unsigned() {
-            Ok(value) => return Ok(u128::from(value)),
-            Err(ReadError::OutOfMemory) => return Err(ReadError::OutOfMemory),
-            Err(_) => {}
-        }
-        self.part = part;
-        self.wide_unsigned()
+        self.parsed()
     }
 
     fn f32(&mut self, _input: &[u8]) -> Result<f32>
         ensures step { IfOk result (λ v. Reads self.old (single v) self.new) }
-        ensures errors { FailsOn (tree_at self.old) result }
+        ensures exact { ReadGives (λ x. x) (is_text (tree_at self.old)) result (next_float binary32 self.old) }
     {
         self.parsed()
     }
 
     fn f64(&mut self, _input: &[u8]) -> Result<f64>
         ensures step { IfOk result (λ v. Reads self.old (double v) self.new) }
-        ensures errors { FailsOn (tree_at self.old) result }
+        ensures exact { ReadGives (λ x. x) (is_text (tree_at self.old)) result (next_float binary64 self.old) }
     {
         self.parsed()
     }
 
+    #[tactic(auto, using(crate::proofs::Errors::step_errors, crate::proofs::Borrowed::character_only))]
     fn char(&mut self, _input: &[u8]) -> Result<char>
         ensures step { IfOk result (λ v. Reads self.old (character v) self.new) }
-        ensures errors { FailsOn (tree_at self.old) result }
+        ensures exact { Returns d.character self.old s.Shape.character result }
     {
-        match self.by_shape(&Shape::Char)? {
-            Data::Char(value) => Ok(value),
-            _ => Err(self.no_value()),
+        let data = self.by_shape(&Shape::Char)?;
+        match as_char(data) {
+            Some(value) => Ok(value),
+            None => Err(self.no_value()),
         }
     }
 
@@ -148,18 +140,20 @@ impl<'t, 'qs> Format for TreeFormat<'t, 'qs> {
 
     fn string(&mut self, _alloc: Global, _input: &[u8]) -> Result<String>
         ensures step { IfOk result (λ v. Reads self.old (text (string_bytes v)) self.new) }
-        ensures errors { FailsOn (tree_at self.old) result }
+        ensures exact { Returns (λ v. d.text (string_bytes v)) self.old s.Shape.text result }
     {
         self.text()
     }
 
+    #[tactic(auto, using(crate::proofs::Errors::step_errors, crate::proofs::Borrowed::bytes_only))]
     fn byte_buf(&mut self, _alloc: Global, _input: &[u8]) -> Result<Vec<u8>>
         ensures step { IfOk result (λ v. Reads self.old (octets v.items) self.new) }
-        ensures errors { FailsOn (tree_at self.old) result }
+        ensures exact { Returns (λ v. d.bytes v.items) self.old s.Shape.bytes result }
     {
-        match self.by_shape(&Shape::Bytes)? {
-            Data::Bytes(bytes) => Ok(bytes),
-            _ => Err(self.no_value()),
+        let data = self.by_shape(&Shape::Bytes)?;
+        match as_bytes(data) {
+            Some(bytes) => Ok(bytes),
+            None => Err(self.no_value()),
         }
     }
 
@@ -197,8 +191,9 @@ impl<'t, 'qs> Format for TreeFormat<'t, 'qs> {
     #[tactic(auto, using(crate::proofs::Errors::step_errors), unfolding(qs_spec::specs::internal::ReadFunction::reads))]
     fn take_none(&mut self, _input: &[u8]) -> Result<bool>
         ensures step { IfOk result (λ b. MatchBool b (Reads self.old nothing self.new) (Stays self.old self.new)) }
-        ensures none { IfOk result (λ b. IsTrue b → tree_at self.old ≡ leaf NoValue) }
-        ensures errors { IfErr result (IsStepError true) }
+        ensures none { IfOk result (λ b. IsTrue b ↔ (tree_at self.old ≡ leaf NoValue)) }
+        ensures some { IfOk result (λ b. MatchBool b (self.new ≡ self.old) (LooksInside self.old self.new)) }
+        ensures errors { IfErr result (λ e. IsStepError true e × ((self.new ≡ self.old) × (tree_at self.old ≡ uninitialized))) }
     {
         match self.part {
             Part::NoValue => Ok(true),
@@ -228,8 +223,8 @@ impl<'t, 'qs> Format for TreeFormat<'t, 'qs> {
     #[inline(always)]
     fn next_item(&mut self, _input: &[u8]) -> Result<bool>
         ensures step { IfOk result (λ b. MatchBool b (Stays self.old self.new) (Reads self.old seq_ends self.new)) }
-        ensures end { IfOk result (λ b. MatchBool b ⊤ (HasNoItem self.old)) }
-        ensures errors { IfErr result (IsStepError true) }
+        ensures exact { IfOk result (λ b. MatchBool b (Comes self.old self.new) (HasNoItem self.old × Leaves self.old self.new)) }
+        ensures errors { IfErr result (λ e. IsStepError true e × (IsSome self.old.frame → ReadRejects true e (next_item_of self.old))) }
     {
         let Some(frame) = self.frame else {
             return Err(self.no_value());
@@ -249,6 +244,7 @@ impl<'t, 'qs> Format for TreeFormat<'t, 'qs> {
     #[tactic(auto, using(crate::proofs::Errors::begin_errors, crate::proofs::Places::has_map))]
     fn begin_map(&mut self, _input: &[u8]) -> Result<()>
         ensures step { OnOk result (Reads self.old (map_begins None) self.new) }
+        ensures map { OnOk result (BeginsMap self.old self.new) }
         ensures errors { IfErr result (λ e. ReadRejects true e (next_entries self.old)) }
     {
         let node = self.next_node()?;
@@ -352,7 +348,9 @@ impl<'t, 'qs> Format for TreeFormat<'t, 'qs> {
 
     fn release(&mut self, _mark: Mark<'t, 'qs>) {}
 
-    fn is_fatal(&self, error: &ReadError) -> bool {
+    fn is_fatal(&self, error: &ReadError) -> bool
+        ensures { IsTrue result ↔ (error.now ≡ OutOfMemory) }
+    {
         matches!(error, ReadError::OutOfMemory)
     }
 
@@ -390,7 +388,9 @@ impl<'t, 'qs> Format for TreeFormat<'t, 'qs> {
         self.unfit()
     }
 
-    fn no_memory(&self) -> ReadError {
+    fn no_memory(&self) -> ReadError
+        ensures { result ≡ OutOfMemory }
+    {
         ReadError::OutOfMemory
     }
 

@@ -38,6 +38,7 @@ pub fn worked_texts()
 /// ```
 /// events_of_data(); // its clause is the law
 /// ```
+#[tactic(auto, using(crate::proofs::Sends::have_their_text))]
 pub fn events_of_data()
     ensures { (config : Config) (x : Data) → AreSaid false x → (entries config x).error ≡ None → text_of_sent config (sends x []) ≡ Some (written config.is_form false (entries config x).entries) }
 {}
@@ -48,6 +49,7 @@ pub fn events_of_data()
 /// ```
 /// texts_without_floats(); // its clause is the law
 /// ```
+#[tactic(auto, using(crate::proofs::Floats::text_is))]
 pub fn texts_without_floats()
     ensures { (config : Config) (es : List Event) (bytes : List ℕ) → has_float es ≡ false → IsTextOf config (Some es) bytes → text_of_sent config es ≡ Some bytes }
 {}

@@ -42,8 +42,8 @@ pub(crate) enum Note<'a> {
     BeginKey,
     EndKey,
     Flatten,
-    /// After an error, or after a text that contracts don't know. From then on it isn't known what was written.
-    Lost,
+    /// A text that contracts don't know. From then on they don't know what was written.
+    Printed,
 }
 
 impl Log {

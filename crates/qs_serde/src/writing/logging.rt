@@ -1,6 +1,6 @@
 //! What is kept of an event, and the texts that need a buffer.
 
-ghost use Rattle.std.specs.Prelude.{◌≡◌, ℕ, List, OnOk, IfSome};
+ghost use Rattle.std.specs.Prelude.{◌≡◌, ℕ, List, OnErr, OnOk, IfSome};
 ghost use Rattle.qs_spec.specs.Config.{Config as Settings};
 ghost use Rattle.serde.specs.Event.{Event, Logs};
 ghost use Rattle.serde.specs.Spelling.{spelled};
@@ -8,7 +8,8 @@ ghost use Rattle.serde.specs.declared.name.NameKind.TheVariants.{Variant};
 ghost use Rattle.qs_serde.specs.Sent.{key_sent, sent, text_sent};
 ghost use Rattle.qs_serde.specs.Placed.{Moves};
 ghost use Rattle.qs_serde.specs.Noted.{IsNoted, event_of};
-ghost use Rattle.qs_serde.specs.Follows.{Follows};
+ghost use Rattle.qs_serde.specs.Noted.{Follows};
+ghost use Rattle.qs_serde.specs.declared.writing.frame.Next.TheVariants.{Nothing};
 ghost use Rattle.qs_serde.specs.declared.writing.position.Position.{Position as At};
 
 use super::frame::Next;
@@ -29,6 +30,7 @@ pub(crate) fn keep(
     note: &Note<'_>,
 ) -> Result<(), Halt>
     ensures logs { OnOk result (IfSome (event_of note.now) (λ e. Logs log.old.events log.new.events e)) }
+    ensures kept { OnErr result ((log.new.events ≡ log.old.events) × (position.new.next ≡ Nothing)) }
     ensures follows { (config : Settings) (before : At) (e : Event) → IsNoted note.now e → Moves (λ config. sent config e) made before position.old
         → Follows config log.old.events before → Follows config log.new.events position.new }
 {
@@ -38,7 +40,6 @@ pub(crate) fn keep(
             Ok(())
         }
         Err(halt) => {
-            *log = log.then(&Note::Lost);
             position.next = Next::Nothing;
             Err(halt)
         }

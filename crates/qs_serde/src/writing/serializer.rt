@@ -171,6 +171,6 @@ impl<K: Settings> Serializer for TextSerializer<K> {
 
     fn collect_str<T: Display>(&mut self, value: &T) -> Result<(), Halt> {
         let made = printed(&mut self.position, &mut self.room, value);
-        keep(&mut self.position, &mut self.log, made, &Note::Lost)
+        keep(&mut self.position, &mut self.log, made, &Note::Printed)
     }
 }

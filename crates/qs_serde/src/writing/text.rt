@@ -1,9 +1,10 @@
 //! The serializer: the events that it was sent, and what they wrote.
 
-ghost use Rattle.std.specs.Prelude.{◌≡◌, [], IfOk, Some};
+ghost use Rattle.std.specs.Prelude.{◌≡◌, ◌↔◌, [], IfOk, IsTrue, Some};
 ghost use Rattle.qs_spec.specs.Config.{Config as Meaning, default};
-ghost use Rattle.qs_serde.specs.Follows.{Follows};
+ghost use Rattle.qs_serde.specs.Noted.{Follows};
 
+use super::frame::Next;
 use super::log::Log;
 use super::position::Position;
 use qs_tree::{Config, Result};
@@ -40,7 +41,8 @@ pub struct TextSerializer<K: Settings> {
 }
 
 impl<K: Settings> TextSerializer<K> {
-    ghost use Rattle.qs_serde.specs.Texts.{IsTextOf, IsTextOfEntries};
+    ghost use Rattle.qs_serde.specs.Halts.{HasFailed};
+    ghost use Rattle.qs_serde.specs.Texts.{IsTextOf, IsTextOfEntries, IsTextOrNone};
 
     /// Returns a serializer that has written nothing. It allocates 128 bytes. The only error is
     /// [`OutOfMemory`](qs_tree::Error::OutOfMemory).
@@ -71,14 +73,27 @@ impl<K: Settings> TextSerializer<K> {
         }
     }
 
-    /// Returns the text that was written: whole entries only, even after an error. It doesn't allocate.
+    /// Returns whether an event wasn't written. Then no later event is written, either.
+    ///
+    /// ```
+    /// let is_whole = !serializer.has_failed();
+    /// ```
+    #[inline(always)]
+    pub fn has_failed(&self) -> bool
+        ensures { IsTrue result ↔ HasFailed self.now.position }
+    {
+        matches!(self.position.next, Next::Nothing)
+    }
+
+    /// Returns the text that was written: that of the events before an error, or no text after a failed allocation. It doesn't allocate.
     ///
     /// ```
     /// let text = serializer.into_text();
     /// ```
     #[inline(always)]
     pub fn into_text(self) -> Vec<u8>
-        ensures events { IsTextOf K.config self.log.events result.items }
+        ensures events { ¬ HasFailed self.position → IsTextOf K.config self.log.events result.items }
+        ensures failed { IsTextOrNone K.config self.log.events result.items }
         ensures entries { IsTextOfEntries K.config result.items }
     {
         let TextSerializer { position, .. } = self;

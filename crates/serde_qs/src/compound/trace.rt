@@ -1,6 +1,10 @@
 //! The first part of a node that isn't read, found by reading each.
 
+ghost use Rattle.std.specs.Prelude.{IfOk, IsTrue};
+ghost use Rattle.qs_spec.specs.Node.{found};
+ghost use Rattle.qs_data.specs.read.Found.{IsFound};
 ghost use Rattle.qs_data.specs.read.Keys.{NumbersFit, entries_view};
+ghost use Rattle.qs_data.specs.declared.read.keys.Found.TheVariants.{Several};
 
 use super::field_types::FieldType;
 use super::fields::Fields;
@@ -37,6 +41,7 @@ pub(crate) fn is_unread<F: FieldType>(
     path: &mut Path,
 ) -> Result<bool, AllocError>
     requires { NumbersFit (entries_view entries) }
+    ensures { IsFound Several (found name.now (entries_view entries.entry)) → IfOk result IsTrue }
 {
     let read: Result<F> = match entries.find(name) {
         Found::Missing => F::without_key(reader, name),

@@ -2,6 +2,7 @@
 use Rattle.qs_data.proofs.Common.{◌≡◌, ℕ, zero, suc, length, get_or, slice_index, ◌-◌, ◌^◌, ◌<◌, ◌≤◌, ◌⊎◌, inl, inr, Bool, true, false, cond, decimal, List, [], ◌∷◌, Some, None, ℤ, pos, neg_ℤ, ◌≤ℤ◌, ◌<ℤ◌, w64, refl, sym, ap, ◌∙◌, subst, arith, rules, eqb, IsAscii, is_utf8, option_map, IsAscii-decimal, decimal_is_IsNumeral, cases_Bool, false≢true, nat_tests, IsUtf8-from_ascii, is_utf8-from_IsUtf8, bits_of, number, is_numeral, numeral_up_to, unsigned_number, signed_number}
 use Rattle.std.specs.Str.Parse.{IsNumeral, digits_value, signed_digits_value, starts_with_minus, without_leading_plus, without_leading_sign}
 use Rattle.std.specs.Int.RustNames.{FitsSigned}
+use Rattle.std.specs.Int.{Width as IntWidth, w128}
 use Rattle.std.proofs.lemmas.Int.{ints}
 use Rattle.qs_data.specs.declared.shape.width.Width.{Width}
 use Rattle.qs_data.specs.declared.shape.width.Width.TheVariants.{Bits64}
@@ -78,14 +79,17 @@ unsigned_ok bits bs n h is le = unsigned_is bits bs ∙ numeral_within (2 ^ bits
 pub unsigned_past : (bits : ℕ) (bs : List ℕ) (n : ℕ) → IsNumeral 10 (without_leading_plus bs) → n ≡ digits_value 10 (without_leading_plus bs) → 2 ^ bits - 1 < n → unsigned_number bits bs ≡ None
 unsigned_past bits bs n h is lt = unsigned_is bits bs ∙ numeral_past (2 ^ bits - 1) (without_leading_plus bs) h (subst (λ m. 2 ^ bits - 1 < m) is lt)
 
-pub unsigned_err : (bits : ℕ) (bs : List ℕ) → ¬ (IsNumeral 10 (without_leading_plus bs) × (digits_value 10 (without_leading_plus bs) < 2 ^ 64)) → 2 ^ bits ≤ 2 ^ 64 → unsigned_number bits bs ≡ None
-unsigned_err bits bs h le = elim (cases_Bool (is_numeral (without_leading_plus bs))) [
+pub unsigned_bad : (bits wide : ℕ) (bs : List ℕ) → ¬ (IsNumeral 10 (without_leading_plus bs) × (digits_value 10 (without_leading_plus bs) < 2 ^ wide)) → 2 ^ bits ≤ 2 ^ wide → 0 < 2 ^ wide → unsigned_number bits bs ≡ None
+unsigned_bad bits wide bs h le some = elim (cases_Bool (is_numeral (without_leading_plus bs))) [
   | inl is ↦ let v = digits_value 10 (without_leading_plus bs) in
       let held = numeral_holds (without_leading_plus bs) is in
-      let large : v < 2 ^ 64 → ⊥ = λ lt. h (held, lt) in
+      let large : v < 2 ^ wide → ⊥ = λ lt. h (held, lt) in
       unsigned_is bits bs ∙ numeral_past (2 ^ bits - 1) (without_leading_plus bs) held (omega arith)
   | inr not ↦ unsigned_is bits bs ∙ rw not
 ]
+
+pub unsigned_err : (bits : ℕ) (bs : List ℕ) → ¬ (IsNumeral 10 (without_leading_plus bs) × (digits_value 10 (without_leading_plus bs) < 2 ^ 64)) → 2 ^ bits ≤ 2 ^ 64 → unsigned_number bits bs ≡ None
+unsigned_err bits bs h le = unsigned_bad bits 64 bs h le (omega arith)
 
 pub unsigned_text : (bits : ℕ) (bs : List ℕ) → is_utf8 bs ≡ false → unsigned_number bits bs ≡ None
 unsigned_text bits bs h = elim (cases_Bool (is_numeral (without_leading_plus bs))) [
@@ -148,13 +152,6 @@ same_either : {A : Type 0} (b : Bool) (x : A) → cond b x x ≡ x
 same_either true x = refl
 same_either false x = refl
 
-negative_fits : (n : ℕ) → n ≤ 2 ^ 63 → FitsSigned w64 (neg_ℤ (pos n))
-negative_fits zero h = record { sfits = omega arith }
-negative_fits (suc n) h = record { sfits = omega arith }
-
-positive_fits : (n : ℕ) → n < 2 ^ 63 → FitsSigned w64 (pos n)
-positive_fits n h = record { sfits = h }
-
 sign_is_text : (bs : List ℕ) → is_numeral (without_leading_sign bs) ≡ true → is_utf8 bs ≡ true
 sign_is_text [] h = absurd (search rules)
 sign_is_text (b ∷ bs) h = elim (cases_Bool (eqb b 45)) [
@@ -168,20 +165,42 @@ signed_text bits bs h = elim (cases_Bool (is_numeral (without_leading_sign bs)))
   | inr not ↦ signed_is bits bs ∙ rw not (same_either (starts_with_minus bs) None)
 ]
 
-pub signed_err : (bits : ℕ) (bs : List ℕ) → ¬ (IsNumeral 10 (without_leading_sign bs) × FitsSigned w64 (signed_digits_value 10 bs)) → 2 ^ (bits - 1) ≤ 2 ^ 63 → signed_number bits bs ≡ None
-signed_err bits bs h le = elim (cases_Bool (is_numeral (without_leading_sign bs))) [
+-- a width of signed numbers holds those from -half up to half, without half itself
+pub record HoldsHalf (w : IntWidth) (half : ℕ) : Type 0 where
+  pub minus : (n : ℕ) → n ≤ half → FitsSigned w (neg_ℤ (pos n))
+  pub plain : (n : ℕ) → n < half → FitsSigned w (pos n)
+
+pub signed_bad : (w : IntWidth) (half bits : ℕ) (bs : List ℕ) → HoldsHalf w half → ¬ (IsNumeral 10 (without_leading_sign bs) × FitsSigned w (signed_digits_value 10 bs)) → 2 ^ (bits - 1) ≤ half → 0 < half → signed_number bits bs ≡ None
+signed_bad w half bits bs fits h le some = elim (cases_Bool (is_numeral (without_leading_sign bs))) [
   | inl is ↦
       let held = numeral_holds (without_leading_sign bs) is in
       elim (cases_Bool (starts_with_minus bs)) [
         | inl minus ↦
-            let large : size_of bs ≤ 2 ^ 63 → ⊥ = λ small. h (held, rw (minus_value bs minus) (negative_fits (size_of bs) small)) in
+            let large : size_of bs ≤ half → ⊥ = λ small. h (held, rw (minus_value bs minus) (fits.minus (size_of bs) small)) in
             minus_is bits bs minus ∙ ap (option_map (λ n. neg_ℤ (pos n))) (numeral_past (2 ^ (bits - 1)) (without_leading_sign bs) held (omega arith))
         | inr plain ↦
-            let large : size_of bs < 2 ^ 63 → ⊥ = λ small. h (held, rw (plain_value bs plain) (positive_fits (size_of bs) small)) in
+            let large : size_of bs < half → ⊥ = λ small. h (held, rw (plain_value bs plain) (fits.plain (size_of bs) small)) in
             plain_is bits bs plain ∙ ap (option_map pos) (numeral_past (2 ^ (bits - 1) - 1) (without_leading_sign bs) held (omega arith))
       ]
   | inr not ↦ signed_is bits bs ∙ rw not (same_either (starts_with_minus bs) None)
 ]
+
+minus_64 : (n : ℕ) → n ≤ 2 ^ 63 → FitsSigned w64 (neg_ℤ (pos n))
+minus_64 zero h = record { sfits = omega arith }
+minus_64 (suc n) h = record { sfits = omega arith }
+
+minus_128 : (n : ℕ) → n ≤ 2 ^ 127 → FitsSigned w128 (neg_ℤ (pos n))
+minus_128 zero h = record { sfits = omega arith }
+minus_128 (suc n) h = record { sfits = omega arith }
+
+half_64 : HoldsHalf w64 (2 ^ 63)
+half_64 = record { minus = minus_64; plain = λ n h. record { sfits = h } }
+
+pub half_128 : HoldsHalf w128 (2 ^ 127)
+half_128 = record { minus = minus_128; plain = λ n h. record { sfits = h } }
+
+pub signed_err : (bits : ℕ) (bs : List ℕ) → ¬ (IsNumeral 10 (without_leading_sign bs) × FitsSigned w64 (signed_digits_value 10 bs)) → 2 ^ (bits - 1) ≤ 2 ^ 63 → signed_number bits bs ≡ None
+signed_err bits bs h le = signed_bad w64 (2 ^ 63) bits bs half_64 h le (omega arith)
 
 pub signed_width_fits : (w : Width) → 2 ^ (bits_of w - 1) ≤ 2 ^ 63
 signed_width_fits Bits64 = omega arith

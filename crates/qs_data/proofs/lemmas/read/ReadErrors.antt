@@ -2,7 +2,8 @@
 use Rattle.qs_data.proofs.Common.{◌≡◌, ℕ, List, Bool, false, Option, None, ◌∙◌, sym, Result, Ok, Err, subst, inl, inr, ◌==◌, list_any, IsErrAnd, cases_Bool, MatchBool-at_true, MatchBool-at_false, ReadError, ReadGives, ReadRejects, ReadIsCustom, ReadRunsOutOnlyToReject, ReadIsFrugal, error_of, Gives, Rejects, Error}
 use Rattle.qs_tree.specs.Error.{IsCustomSaying}
 use Rattle.qs_data.specs.declared.read.error.ReadError.TheVariants.{Custom, Utf8, OutOfMemory}
-use Rattle.qs_data.specs.read.Errors.{IsCustomOrOutOfMemory}
+use Rattle.qs_data.specs.read.Errors.{IsCustomOrOutOfMemory, IsUtf8OrOutOfMemory}
+use Rattle.qs_data.specs.read.internal.ReadError.{ReadIsUtf8}
 use Rattle.qs_data.specs.read.Narrowed.{IsNarrowed, IsPassedOn}
 use Rattle.qs_data.specs.read.internal.Hint.{IsKeyError, IsHinted, hinted_text}
 
@@ -50,6 +51,10 @@ passed t x e r (inr memory) h = subst (λ z. ReadRejects t z r) (sym memory) tt
 pub passed_custom : (x : Error) (e : ReadError) → IsPassedOn x e → IsCustomOrOutOfMemory x → ReadIsCustom e
 passed_custom x e (inl same) h = subst IsCustomOrOutOfMemory (sym same) h
 passed_custom x e (inr memory) h = subst ReadIsCustom (sym memory) tt
+
+pub passed_utf8 : (x : Error) (e : ReadError) → IsPassedOn x e → IsUtf8OrOutOfMemory x → ReadIsUtf8 e
+passed_utf8 x e (inl same) h = subst IsUtf8OrOutOfMemory (sym same) h
+passed_utf8 x e (inr memory) h = subst ReadIsUtf8 (sym memory) tt
 
 -- what is known of a result is known of it with the error passed on
 pub narrowed_gives : {X Y : Type 0} (view : X → Y) (t : Bool) (given : Result X Error) (x : Result X ReadError) (r : Option Y) → IsNarrowed given x → Gives view t given r → ReadGives view t x r

@@ -12,11 +12,20 @@ same_members-returns-then-left-right t c = Prim.grind (arith, other_members)
 pub same_pairs-returns-then-left-right : goal.same_pairs-returns-then-left-right
 same_pairs-returns-then-left-right t c = Prim.grind (arith, other_pairs)
 
-pub same_data-returns-in-Map-right : goal.same_data-returns-in-Map-right
-same_data-returns-in-Map-right t c = Prim.grind (arith, data_of_map)
+pub same_data-returns-in-Map-matches : goal.same_data-returns-in-Map-matches
+same_data-returns-in-Map-matches t c = Prim.grind (arith, data_of_map)
 
-pub same_data-returns-in-Struct-right : goal.same_data-returns-in-Struct-right
-same_data-returns-in-Struct-right t c = Prim.grind (arith, data_of_struct)
+pub same_data-returns-in_default-matches-11 : goal.same_data-returns-in_default-matches-11
+same_data-returns-in_default-matches-11 t c = Prim.grind (arith, data_of_map)
 
-pub same_data-returns-then-eq-3 : goal.same_data-returns-then-eq-3
-same_data-returns-then-eq-3 t c = Prim.grind (arith, data_of_struct_variant)
+pub same_data-returns-in-Struct-matches : goal.same_data-returns-in-Struct-matches
+same_data-returns-in-Struct-matches t c = Prim.grind (arith, data_of_struct)
+
+pub same_data-returns-in_default-matches-12 : goal.same_data-returns-in_default-matches-12
+same_data-returns-in_default-matches-12 t c = Prim.grind (arith, data_of_struct)
+
+pub same_data-returns-in-StructVariant-matches : goal.same_data-returns-in-StructVariant-matches
+same_data-returns-in-StructVariant-matches t c = Prim.grind (arith, data_of_struct_variant)
+
+pub same_data-returns-in_default-matches-17 : goal.same_data-returns-in_default-matches-17
+same_data-returns-in_default-matches-17 t c = Prim.grind (arith, data_of_struct_variant)

@@ -1,6 +1,5 @@
 use Rattle.std.proofs.Common.{sym, subst}
-use Rattle.qs_serde.specs.declared.writing.frame.Next.TheVariants.{Nothing}
-use Rattle.qs_serde.specs.Follows.{Follows}
+use Rattle.qs_serde.specs.Noted.{Follows}
 use Rattle.qs_serde.specs.Placed.{Moves}
 use Rattle.qs_serde.specs.Sent.{sent}
 use Rattle.qs_serde.proofs.Kept.{follows_on, follows_stop}
@@ -15,5 +14,4 @@ returns-in-Ok-clause-follows c config before e shown moves follows =
 pub returns-in-Err-clause-follows : goal.returns-in-Err-clause-follows
 returns-in-Err-clause-follows c config before e shown moves follows =
     let now = c.args.position.now in
-    subst (λ log. Follows config log (record { writer = now.writer; frame = now.frame; around = now.around; next = Nothing })) (sym c.then-in-Err.ensures)
-    (follows_stop config c.args.log.now.events before now e c.in-Err.halt (subst (λ r. Moves (λ config. sent config e) r before now) c.in-Err.is moves) follows)
+    follows_stop config c.args.log.now.events before now e c.in-Err.halt (subst (λ r. Moves (λ config. sent config e) r before now) c.in-Err.is moves) follows

@@ -11,5 +11,6 @@ returns-in-Ok c before value same w config s h =
 
 pub returns-in-Err : goal.returns-in-Err
 returns-in-Err c before value same w config s h =
-    inr (failed config s before value h c.in-Err.stop c.args.self.now.writer c.take.new.self
-    (subst (λ r. WritesPart r before.writer c.args.self.now.writer (λ config path. one path value)) c.in-Err.is w) c.take.ensures.left)
+    let f = failed config s before value h c.in-Err.stop c.args.self.now.writer c.take.new.self
+    (subst (λ r. WritesPart r before.writer c.args.self.now.writer (λ config path. one path value)) c.in-Err.is w) c.take.ensures.left in
+    inr (f.0, inr f.1)

@@ -1,0 +1,106 @@
+-- The steps by which serde's impls and derives read a value, and what they gave. Each constructor is a shape, with what the public clauses of
+-- its steps say.
+use Rattle.std.specs.Prelude.{◌≡◌, ◌⊎◌, ◌↔◌, ◌<◌, ◌≤◌, ◌==◌, ◌^◌, ◌-◌, ◌≤ℤ◌, ⊤, ℤ, pos, neg_ℤ, ℕ, zero, suc, Bool, true, false, cond, List, [], ◌∷◌, length, Option, Some, None, option_and_then, IsSome}
+use Rattle.qs_spec.specs.Leaf.Leaf.{NoValue, Null}
+use Rattle.qs_spec.specs.Tree.Tree.{leaf}
+use Rattle.qs_spec.specs.internal.ReadFunction.{with_field}
+use Rattle.serde.specs.Spelling.{spelled}
+use Rattle.serde.specs.declared.name.Name.{Name}
+use Rattle.qs_serde.specs.declared.reading.frame.FrameKind.TheVariants as k
+use Rattle.qs_spec.specs.Data as d
+use Rattle.qs_spec.specs.Shape as s
+use Rattle.qs_tree.specs.tree.Views.{tree_of}
+use Rattle.serde.specs.Event as e
+use Rattle.qs_serde.specs.Places.{count_of, opens, tree_at}
+use Rattle.qs_serde.specs.Steps.{Begins, BeginsMap, Comes, EntryComes, EntryIs, HasNoEntry, HasNoItem, Leaves, LooksInside, Reads, Takes, is_held, next_struct}
+use Rattle.qs_serde.specs.declared.reading.node.Node.{Node}
+use Rattle.qs_serde.specs.declared.reading.node.Part.TheVariants as p
+use Rattle.qs_serde.specs.declared.reading.format.TreeFormat.{TreeFormat}
+
+-- A value may be read: no value is next only in place of an empty one, and nothing is open around what is not open.
+pub record IsReady (f : TreeFormat) : Type 0 where
+  pub part : f.part ≡ p.NoValue → tree_of f.node.now ≡ leaf Null
+  pub outer : IsSome f.frame ⊎ (f.around.items ≡ [])
+
+-- A value was read: the open lists and maps are those before it, gone over as far.
+pub record IsLevel (old new : TreeFormat) : Type 0 where
+  pub opened : opens new ≡ opens old
+  pub open_as : IsSome new.frame ↔ IsSome old.frame
+  pub reader : new.reader ≡ old.reader
+  pub plain : new.search.in_order ≡ old.search.in_order
+
+-- the names of a derived struct are those of the fields, without aliases
+abbrev pub AreNamed : List Name → s.Fields → Type 0
+AreNamed [] s.no_fields = ⊤
+AreNamed (n ∷ ns) (s.one_field name a optional fs) = (n.skipped ≡ false) × (n.aliases.now ≡ []) × (spelled n.case n.kind n.name.now ≡ name) × AreNamed ns fs
+AreNamed _ _ = ⊥
+
+abbrev pub field_at : s.Fields → ℕ → Option s.Field
+field_at s.no_fields k = None
+field_at (s.one_field name a optional fs) zero = Some (name, a, optional)
+field_at (s.one_field name a optional fs) (suc k) = field_at fs k
+
+-- what was read of the field at an index; then its value, or what it has if it is missing; then all fields
+abbrev pub read_of : ℕ → List (ℕ × d.Data) → List d.Data
+read_of k [] = []
+read_of k (m ∷ ms) = cond (m.0 == k) (m.1 ∷ read_of k ms) (read_of k ms)
+
+abbrev pub slot : Bool → Bool → List d.Data → Option (Option d.Data)
+slot optional is_opt [] = cond optional (Some None) (cond is_opt (Some (Some d.none)) None)
+slot optional is_opt (x ∷ []) = Some (Some x)
+slot optional is_opt (x ∷ y ∷ xs) = None
+
+abbrev pub collected : ℕ → s.Fields → List (ℕ × d.Data) → Option (List d.Named)
+collected k s.no_fields ms = Some []
+collected k (s.one_field name a optional fs) ms = option_and_then (λ x. with_field name x (collected (suc k) fs ms)) (slot optional (s.is_option a) (read_of k ms))
+
+-- the step by which a map's key is read, and what it gave
+pub data KeyRun : s.KeyShape → TreeFormat → d.Data → TreeFormat → Type 0 where
+  boolean_key : {old new : TreeFormat} {b : Bool} → Reads old (e.boolean b) new → KeyRun s.KeyShape.boolean old (d.boolean b) new
+  unsigned_key : {old new : TreeFormat} {bits m : ℕ} → Reads old (e.unsigned m) new → m < 2 ^ bits → KeyRun (s.KeyShape.unsigned bits) old (d.unsigned m) new
+  signed_key : {old new : TreeFormat} {bits : ℕ} {z : ℤ} → Reads old (e.signed z) new → neg_ℤ (pos (2 ^ (bits - 1))) ≤ℤ z → z ≤ℤ pos (2 ^ (bits - 1) - 1) → KeyRun (s.KeyShape.signed bits) old (d.signed z) new
+  character_key : {old new : TreeFormat} {c : ℕ} → Reads old (e.character c) new → KeyRun s.KeyShape.character old (d.character c) new
+  text_key : {old new : TreeFormat} {t : List ℕ} → Reads old (e.text t) new → KeyRun s.KeyShape.text old (d.text t) new
+
+mutual
+  pub data Run : s.Shape → TreeFormat → d.Data → TreeFormat → Type 0 where
+    boolean_run : {old new : TreeFormat} {b : Bool} → Reads old (e.boolean b) new → Run s.Shape.boolean old (d.boolean b) new
+    unsigned_run : {old new : TreeFormat} {bits m : ℕ} → Reads old (e.unsigned m) new → m < 2 ^ bits → Run (s.Shape.unsigned bits) old (d.unsigned m) new
+    signed_run : {old new : TreeFormat} {bits : ℕ} {z : ℤ} → Reads old (e.signed z) new → neg_ℤ (pos (2 ^ (bits - 1))) ≤ℤ z → z ≤ℤ pos (2 ^ (bits - 1) - 1) → Run (s.Shape.signed bits) old (d.signed z) new
+    character_run : {old new : TreeFormat} {c : ℕ} → Reads old (e.character c) new → Run s.Shape.character old (d.character c) new
+    text_run : {old new : TreeFormat} {t : List ℕ} → Reads old (e.text t) new → Run s.Shape.text old (d.text t) new
+    octets_run : {old new : TreeFormat} {t : List ℕ} → Reads old (e.octets t) new → Run s.Shape.bytes old (d.bytes t) new
+    newtype_run : {a : s.Shape} {old new : TreeFormat} {x : d.Data} → Run a old x new → Run (s.Shape.newtype a) old (d.newtype x) new
+    none_run : {a : s.Shape} {old new : TreeFormat} → tree_at old ≡ leaf NoValue → new ≡ old → Run (s.Shape.option a) old d.none new
+    some_run : {a : s.Shape} {old looked new : TreeFormat} {x : d.Data} → LooksInside old looked → Run a looked x new → Run (s.Shape.option a) old (d.some x) new
+    sequence_run : {a : s.Shape} {old first new : TreeFormat} {xs : List d.Data} → Reads old (e.seq_begins None) first → ItemsRun a first xs new → Run (s.Shape.sequence a) old (d.sequence (d.values_of xs)) new
+    tuple_run : {parts : s.Shapes} {old first new : TreeFormat} {xs : List d.Data} → Reads old (e.seq_begins None) first → PartsRun parts first xs new → Run (s.Shape.tuple parts) old (d.tuple (d.values_of xs)) new
+    mapping_run : {key : s.KeyShape} {a : s.Shape} {old first new : TreeFormat} {ps : List (d.Data × d.Data)} → BeginsMap old first → PairsRun key a first ps new → Run (s.Shape.mapping key a) old (d.mapping (d.pairs_of ps)) new
+    struct_run : {unknown : s.UnknownKeys} {names : List Name} {fs : s.Fields} {old first new : TreeFormat} {ms : List (ℕ × d.Data)} {named : List d.Named}
+        → Begins old k.Fields first → next_struct old ≡ Some k.Fields → is_held old.part ≡ false → AreNamed names fs → s.field_names_differ fs ≡ true → MembersRun unknown names fs first ms new
+        → collected 0 fs ms ≡ Some named → Run (s.Shape.struct unknown fs) old (d.struct (d.members_of named)) new
+
+  -- each item comes and is read, until none is left
+  pub data ItemsRun : s.Shape → TreeFormat → List d.Data → TreeFormat → Type 0 where
+    no_item : {a : s.Shape} {old new : TreeFormat} → HasNoItem old → Leaves old new → ItemsRun a old [] new
+    one_item : {a : s.Shape} {old come read new : TreeFormat} {x : d.Data} {xs : List d.Data} → Comes old come → Run a come x read → ItemsRun a read xs new → ItemsRun a old (x ∷ xs) new
+
+  -- an item comes for each part, and the further ones are left
+  pub data PartsRun : s.Shapes → TreeFormat → List d.Data → TreeFormat → Type 0 where
+    no_part : {old new : TreeFormat} → Leaves old new → PartsRun s.no_shapes old [] new
+    one_part : {a : s.Shape} {parts : s.Shapes} {old come read new : TreeFormat} {x : d.Data} {xs : List d.Data} → Comes old come → Run a come x read → PartsRun parts read xs new → PartsRun (s.one_shape a parts) old (x ∷ xs) new
+
+  -- each entry of a map comes, its key is read and then its value, until none is left
+  pub data PairsRun : s.KeyShape → s.Shape → TreeFormat → List (d.Data × d.Data) → TreeFormat → Type 0 where
+    no_pair : {key : s.KeyShape} {a : s.Shape} {old new : TreeFormat} → HasNoEntry old → Leaves old new → PairsRun key a old [] new
+    one_pair : {key : s.KeyShape} {a : s.Shape} {old come next read new : TreeFormat} {node : Node} {k x : d.Data} {ps : List (d.Data × d.Data)}
+        → EntryComes (count_of old) node old come → come.part ≡ p.Key → KeyRun key come k next → Run a next x read → PairsRun key a read ps new → PairsRun key a old ((k, x) ∷ ps) new
+
+  -- Each entry comes: a field is read, and what is under another key is passed over, if it may be, until none is left.
+  pub data MembersRun : s.UnknownKeys → List Name → s.Fields → TreeFormat → List (ℕ × d.Data) → TreeFormat → Type 0 where
+    no_member : {unknown : s.UnknownKeys} {names : List Name} {fs : s.Fields} {old new : TreeFormat} → HasNoEntry old → Leaves old new → MembersRun unknown names fs old [] new
+    one_member : {unknown : s.UnknownKeys} {names : List Name} {fs : s.Fields} {old come read new : TreeFormat} {at : ℕ} {f : s.Field} {x : d.Data} {ms : List (ℕ × d.Data)}
+        → EntryIs (count_of old) names at p.Value old come → field_at fs at ≡ Some f → Run f.1 come x read → MembersRun unknown names fs read ms new
+        → MembersRun unknown names fs old ((at, x) ∷ ms) new
+    other_member : {unknown : s.UnknownKeys} {names : List Name} {fs : s.Fields} {old come read new : TreeFormat} {at : ℕ} {ms : List (ℕ × d.Data)}
+        → s.are_ignored unknown ≡ true → EntryIs (count_of old) names at p.Value old come → length names ≤ at → Takes come read → MembersRun unknown names fs read ms new → MembersRun unknown names fs old ms new

@@ -58,7 +58,7 @@ fn error_of_the_writer(rt: HostRuntime) {
         Err(Error::Io(error)) => assert!(rt; error.kind() == io::ErrorKind::BrokenPipe),
         _ => assert!(rt; false, "no error of the writer"),
     }
-    assert!(rt; out.held.as_slice() == b"name=Al&i");
+    assert!(rt; out.held.as_slice() == b"name=Al&i".as_slice());
 }
 
 #[test]
@@ -69,7 +69,7 @@ fn entries_before_an_error(rt: HostRuntime) {
     let mut out = Vec::new(alloc);
     let written = to_writer_with(alloc, flat, &person, &mut out);
     assert!(rt; matches!(written, Err(Error::MaxSerializationDepthExceeded(0))));
-    assert!(rt; out.as_slice() == b"name=Al");
+    assert!(rt; out.as_slice() == b"name=Al".as_slice());
 }
 
 #[test]

@@ -90,6 +90,10 @@ def dashed(r):
 
 SORT = one(unit("Relevance"), variant("By", text), variant("Between", struct({"from": whole(32), "to": whole(32)})))
 POINT = struct({"x?": whole(8), "y?": option(whole(8))})
+SHOWN = struct({"first": text, "last?": option(text), "size?": option(whole(8))})
+ADJACENT = one(struct({"t": unit("Nothing")}), struct({"t": unit("One"), "c": whole(8)}), struct({"t": unit("Pair"), "c": row(text, whole(8))}),
+               struct({"t": unit("Named"), "c": struct({"a": whole(8), "b": text})}), struct({"t": unit("Size"), "c": struct({"width?": option(whole(8))})}),
+               struct({"t": unit("Held"), "c": SHOWN}))
 TYPES = {
     "query": struct({"name": text, "age": whole(8), "occupation": text}),
     "profile": struct({"name": text, "age": whole(8), "city": text, "zip": whole(32), "langs": seq(text), "sort": SORT, "size?": option(whole(16)),
@@ -105,10 +109,14 @@ TYPES = {
     "listing": struct({"text": text, "first": text, "last?": option(text), "size?": option(whole(8))}),
     "tagged": seq(one(struct({"type": unit("cash")}), struct({"type": unit("card"), "number": text, "ownerName?": option(text)}),
                       struct({"type": unit("bank"), "year": whole(16)}), struct({"type": one(unit("gold"), unit("other"))}))),
-    "adjacent": seq(one(struct({"t": unit("Nothing")}), struct({"t": unit("One"), "c": whole(8)}),
-                        struct({"t": unit("Pair"), "c": row(text, whole(8))}),
-                        struct({"t": unit("Named"), "c": struct({"a": whole(8), "b": text})}))),
+    "spots": seq(one(struct({"kind": unit("anywhere")}), struct({"kind": unit("onMap"), "mapName": text, "zoom?": option(text)}))),
+    "adjacent": seq(ADJACENT),
+    "wrapped": seq(ADJACENT),
     "either": seq(one(whole(32), struct({"x": text, "y": text}), seq(text), text)),
+    "choice": seq(one(row(text, text), boolean, SHOWN, SORT, seq(text, 4), table(text, text), text)),
+    "contact": seq(one(unit("Nobody"), variant("Shown", one(SHOWN, text)), variant("Phone", one(struct({"number?": option(text)}), text)),
+                       variant("Map", one(table(text, whole(8)), text)))),
+    "shown": seq(one(SHOWN, row(text, option(text), option(whole(8))), row(text, text), row(text), row(text, text, whole(8), text))),
     "lists": struct({"t": row(whole(8), text, boolean), "a": row(whole(8), whole(8)), "b": POINT, "l": seq(POINT, 2), "n": seq(seq(whole(8)), 2)}),
     "maps": struct({"h": table(unit("k"), whole(8)), "m": table(signed(32), seq(option(whole(8)))), "d": table(one(unit("Monday"), unit("Tuesday")), text)}),
     "numbers": struct({"f": real, "g": real, "c": character, "i": signed(8), "u": whole(32), "o?": option(boolean)}),

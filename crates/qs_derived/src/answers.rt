@@ -2,8 +2,9 @@
 
 use crate::case::Case;
 use crate::types::{
-    Account, Adjacent, Either, Folder, Labels, Listing, Lists, Maps, Named, Numbers, Order, Paging,
-    Payment, Profile, Query, Search, Tagged, Texts, Trip, Units, Wide,
+    Account, Adjacent, Choice, Contact, Either, Folder, Labels, Listing, Lists, Maps, Named,
+    Numbers, Order, Paging, Payment, Profile, Query, Search, Shown, Spot, Tagged, Texts, Trip,
+    Units, Wide, Wrapped,
 };
 use qs_callers as own;
 use qs_serde::{ArrayFormat, Error, PathError, Result, explain_str, to_string_with};
@@ -127,8 +128,13 @@ fn by_derive_alone(alloc: Global, case: &Case<'_>) -> Line {
         "named" => derived::<Named>(alloc, case),
         "listing" => derived::<Listing>(alloc, case),
         "tagged" => derived::<Vec<Tagged>>(alloc, case),
+        "spots" => derived::<Vec<Spot>>(alloc, case),
         "adjacent" => derived::<Vec<Adjacent>>(alloc, case),
+        "wrapped" => derived::<Vec<Wrapped>>(alloc, case),
         "either" => derived::<Vec<Either>>(alloc, case),
+        "choice" => derived::<Vec<Choice>>(alloc, case),
+        "contact" => derived::<Vec<Contact>>(alloc, case),
+        "shown" => derived::<Vec<Shown>>(alloc, case),
         "lists" => derived::<Lists>(alloc, case),
         "maps" => derived::<Maps>(alloc, case),
         "numbers" => derived::<Numbers>(alloc, case),

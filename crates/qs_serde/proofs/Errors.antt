@@ -1,5 +1,5 @@
 -- The errors of what a step calls, as errors of the step.
-use Rattle.std.proofs.Common.{◌≡◌, ◌≢◌, ◌⊎◌, inl, inr, refl, ℕ, List, Bool, false, Option, None, sym, subst}
+use Rattle.std.proofs.Common.{◌≡◌, ◌≢◌, ◌⊎◌, inl, inr, refl, ℕ, List, Bool, true, false, Option, Some, None, sym, subst, ◌∙◌}
 use Rattle.qs_tree.specs.Error.{IsCustomSaying}
 use Rattle.qs_tree.specs.declared.error.Error.{Error}
 use Rattle.qs_tree.specs.declared.error.Error.TheVariants as e
@@ -84,3 +84,9 @@ hint_rejects t e f r (inl same) h = subst (λ x. ReadRejects t x r) (sym same) h
 hint_rejects t (Custom m) f r (inr is) h = rejects_custom t f r is.0 h
 hint_rejects t (Utf8 c) f r (inr is) h = rejects_custom t f r is.0 h.0
 hint_rejects t OutOfMemory f r (inr is) h = absurd (is.1 refl)
+
+-- an error of an item isn't the end of the list
+pub rejects_end : {Y : Type 0} (e : ReadError) (r : Option (Option Y)) → ReadRejects true e r → (e ≡ OutOfMemory) ⊎ (r ≡ Some None → ⊥)
+rejects_end (Custom m) r h = inr (λ end. absurd (let n : None ≡ Some None = sym h ∙ end in cc))
+rejects_end (Utf8 c) r h = absurd (let n : true ≡ false = h.1 in cc)
+rejects_end OutOfMemory r h = inl refl

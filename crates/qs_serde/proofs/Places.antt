@@ -14,13 +14,15 @@ use Rattle.qs_data.specs.read.Entries.{node_entries}
 use Rattle.qs_data.specs.read.Items.{first_item}
 use Rattle.qs_data.proofs.lemmas.read.Items.{place_here, first_none}
 use Rattle.qs_serde.specs.Nodes.{listed, pairs_in}
-use Rattle.qs_serde.specs.Places.{IsAt, Lead, child_at, count_of, innermost, item_or, kind_of, last_part, opens, part_tree, passed, value_or}
+use Rattle.qs_serde.specs.Places.{IsAt, Lead, child_at, count_of, innermost, item_or, kind_of, last_part, opens, part_tree, passed, value_or, whole_part}
+use Rattle.qs_serde.specs.Tries.{tried_back}
 use Rattle.qs_serde.specs.Steps.{Begins, ComesBack, HasParts, Leaves, Moves}
 use Rattle.qs_serde.specs.declared.reading.frame.Frame.{Frame}
 use Rattle.qs_serde.specs.declared.reading.frame.Outer.{Outer}
 use Rattle.qs_serde.specs.declared.reading.frame.FrameKind.{FrameKind}
 use Rattle.qs_serde.specs.declared.reading.frame.FrameKind.TheVariants as k
 use Rattle.qs_serde.specs.declared.reading.node.Part.{Part}
+use Rattle.qs_serde.specs.declared.reading.node.Part.TheVariants as p
 use Rattle.qs_serde.specs.declared.reading.format.TreeFormat.{TreeFormat}
 use Rattle.qs_serde.specs.declared.reading.format.Mark.{Mark}
 
@@ -101,14 +103,15 @@ lead_alike root os ps top tip outers same h = subst (λ xs. Lead xs root (tree_o
 
 -- a list or a map was begun
 pub begun : (old new : TreeFormat) (kind : FrameKind) → new.frame ≡ Some (record { kind = kind; next = 0; field = 0 }) → new.around.items ≡ opens old → new.top ≡ old.node → new.node ≡ old.node
-    → new.part ≡ old.part → new.reader ≡ old.reader → new.search ≡ old.search → Begins old kind new
-begun old new kind frame around top node part reader search = record {
+    → new.part ≡ old.part → new.reader ≡ old.reader → new.search ≡ old.search → new.is_tried ≡ old.is_tried → Begins old kind new
+begun old new kind frame around top node part reader search tried = record {
   frame = frame;
   around = around;
   top = top;
   node = node;
   part = part;
-  keeps = (reader, search, place);
+  tried = tried;
+  keeps = (reader, search, place, λ h. tried ∙ h);
 } where
   place : IsAt old → IsAt new
   place h = (
@@ -123,12 +126,12 @@ some_open (o ∷ outers) outer = omega arith
 
 -- the innermost list or map was left
 pub left : (old new : TreeFormat) (outer : Outer) → old.around.items ≡ new.around.items ++ outer ∷ [] → new.frame ≡ Some outer.frame → new.top ≡ outer.top
-    → new.node ≡ old.top → new.reader ≡ old.reader → new.search ≡ old.search → Leaves old new
-left old new outer around frame top node reader search = (
+    → new.node ≡ old.top → new.reader ≡ old.reader → new.search ≡ old.search → new.is_tried ≡ old.is_tried → Leaves old new
+left old new outer around frame top node reader search tried = (
   around ∙ ap (λ f. new.around.items ++ option_to_list (innermost outer.top f)) (sym frame) ∙ ap (λ v. new.around.items ++ option_to_list (innermost v new.frame)) (sym top),
   (λ _. subst (λ os. 0 < length os) (sym around) (some_open new.around.items outer), λ _. subst IsSome (sym frame) refl),
   node,
-  (reader, search, place),
+  (reader, search, place, λ h. tried ∙ h),
 ) where
   place : IsAt old → IsAt new
   place h = let out = leads_out new.around.items outer h.0.0 (tree_of old.top.now) (subst (λ os. Lead os h.0.0 (tree_of old.top.now)) around h.0.1) in (
@@ -139,13 +142,14 @@ left old new outer around frame top node reader search = (
 
 -- the innermost list or map is gone on in
 pub moved : (old new : TreeFormat) (frame : Frame) → kind_of old ≡ Some frame.kind → new.frame ≡ Some (record frame { next = suc frame.next }) → new.around.items ≡ old.around.items
-    → new.top ≡ old.top → new.reader ≡ old.reader → new.search ≡ old.search → child_at (tree_of old.top.now) frame.next ≡ tree_of new.node.now → Moves frame.next old new
-moved old new frame kind last around top reader search child = record {
+    → new.top ≡ old.top → new.reader ≡ old.reader → new.search ≡ old.search → new.is_tried ≡ old.is_tried → child_at (tree_of old.top.now) frame.next ≡ tree_of new.node.now → Moves frame.next old new
+moved old new frame kind last around top reader search tried child = record {
   count = ap passed last;
   kind = ap (option_map (λ (f : Frame). f.kind)) last ∙ sym kind;
   around = around;
   top = top;
-  keeps = (reader, search, place);
+  tried = tried;
+  keeps = (reader, search, place, λ h. tried ∙ h);
 } where
   place : IsAt old → IsAt new
   place h = (
@@ -154,22 +158,39 @@ moved old new frame kind last around top reader search child = record {
   )
 
 -- the format came back to a mark
+same_part : (q : Part) (t top : Tree) (n : ℕ) → part_tree (whole_part q) t top n ≡ part_tree q t top n
+same_part p.Value t top n = refl
+same_part p.Held t top n = refl
+same_part p.NoValue t top n = refl
+same_part p.Key t top n = refl
+same_part p.Whole t top n = refl
+same_part p.Nothing t top n = refl
+
+part_back : (b : Bool) (q : Part) (t top : Tree) (n : ℕ) → part_tree (cond b (whole_part q) q) t top n ≡ part_tree q t top n
+part_back true q t top n = same_part q t top n
+part_back false q t top n = refl
+
 pub comes_back : (mark : Mark) (old new : TreeFormat) → new.around.items ≡ take mark.depth old.around.items → new.frame ≡ mark.frame → new.top ≡ mark.top → new.node ≡ mark.node
-    → new.part ≡ mark.part → new.reader ≡ old.reader → ComesBack mark old new
-comes_back mark old new around frame top node part reader marked is above = record {
+    → new.part ≡ cond (tried_back mark old) (whole_part mark.part) mark.part → new.is_tried ≡ tried_back mark old → new.reader ≡ old.reader → ComesBack mark old new
+comes_back mark old new around frame top node part tried reader marked is above = record {
   frame = same_frame;
   around = same_around;
   top = same_top;
   node = same_node;
-  part = part ∙ is.4;
+  part = same_place;
+  tried = tried;
   reader = reader ∙ above.1;
   next =
-      ap (λ (q : Part). part_tree q (tree_of new.node.now) (tree_of new.top.now) (count_of new - 1)) (part ∙ is.4)
+      ap (λ (q : Part). part_tree q (tree_of new.node.now) (tree_of new.top.now) (count_of new - 1)) same_place
+      ∙ part_back (tried_back mark old) marked.part (tree_of new.node.now) (tree_of new.top.now) (count_of new - 1)
       ∙ ap (λ (v : Bor ParsedValue). part_tree marked.part (tree_of v.now) (tree_of new.top.now) (count_of new - 1)) same_node
       ∙ ap (λ (v : Bor ParsedValue). part_tree marked.part (tree_of marked.node.now) (tree_of v.now) (count_of new - 1)) same_top
       ∙ ap (λ o. part_tree marked.part (tree_of marked.node.now) (tree_of marked.top.now) (passed o - 1)) same_frame;
   place = place;
 } where
+  same_place : new.part ≡ cond (tried_back mark old) (whole_part marked.part) marked.part
+  same_place = part ∙ ap (λ q. cond (tried_back mark old) (whole_part q) q) is.4
+
   same_frame : new.frame ≡ marked.frame
   same_frame = frame ∙ is.1
 

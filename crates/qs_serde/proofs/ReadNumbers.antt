@@ -26,8 +26,8 @@ use Rattle.qs_spec.specs.Node.{last_item}
 use Rattle.qs_spec.specs.internal.ReadFunction.{reads, read_scalar}
 use Rattle.qs_data.specs.declared.read.error.ReadError.{ReadError}
 use Rattle.qs_data.specs.read.TreeText.{is_text}
-use Rattle.qs_data.specs.read.internal.ReadError.{ReadGives}
-use Rattle.qs_serde.specs.Places.{tree_at}
+use Rattle.qs_data.specs.read.internal.ReadError.{ReadGives, ReadRejects}
+use Rattle.qs_serde.specs.Places.{scalar_at}
 use Rattle.qs_serde.specs.Steps.{Notes, Reads, Returns, ReturnsParsed, Takes, next_float, next_text, text_in}
 use Rattle.qs_serde.specs.declared.reading.format.TreeFormat.{TreeFormat}
 use Rattle.qs_serde.proofs.Errors.{rejects_custom, rejects_further}
@@ -127,21 +127,21 @@ of_text r get (sequence xs) empty bad = by_last (last_item r xs) where
 of_text r get (mapping es) empty bad = refl
 of_text r get uninitialized empty bad = refl
 
-pub unsigned_next : (old : TreeFormat) → reads old.reader.reject_duplicates (s.Shape.unsigned 128) (tree_at old) ≡ option_and_then (unsigned_data 128) (next_text old)
+pub unsigned_next : (old : TreeFormat) → reads old.reader.reject_duplicates (s.Shape.unsigned 128) (scalar_at old) ≡ option_and_then (unsigned_data 128) (next_text old)
 unfolding reads
-unsigned_next old = of_text old.reader.reject_duplicates (unsigned_data 128) (tree_at old) refl (λ b bad. ap (option_map d.unsigned) (unsigned_text 128 b bad))
+unsigned_next old = of_text old.reader.reject_duplicates (unsigned_data 128) (scalar_at old) refl (λ b bad. ap (option_map d.unsigned) (unsigned_text 128 b bad))
 
-pub signed_next : (old : TreeFormat) → reads old.reader.reject_duplicates (s.Shape.signed 128) (tree_at old) ≡ option_and_then (signed_data 128) (next_text old)
+pub signed_next : (old : TreeFormat) → reads old.reader.reject_duplicates (s.Shape.signed 128) (scalar_at old) ≡ option_and_then (signed_data 128) (next_text old)
 unfolding reads
-signed_next old = of_text old.reader.reject_duplicates (signed_data 128) (tree_at old) refl (λ b bad. ap (option_map d.signed) (signed_text 128 b bad))
+signed_next old = of_text old.reader.reject_duplicates (signed_data 128) (scalar_at old) refl (λ b bad. ap (option_map d.signed) (signed_text 128 b bad))
 
 -- what a step gives that parses a text, by what std's `from_str` gives
 parsed_gives : {T E Y : Type 0} (from_str : List ℕ → Result T E → Type 0) (make : T → Y) (get : List ℕ → Option Y) (old : TreeFormat) (result : Result T ReadError)
     → ((t : List ℕ) (v : T) → from_str t (Ok v) → get t ≡ Some (make v)) → ((t : List ℕ) (e : E) → from_str t (Err e) → get t ≡ None)
-    → ReturnsParsed from_str old result → ReadGives make (is_text (tree_at old)) result (option_and_then get (next_text old))
+    → ReturnsParsed from_str old result → ReadGives make (is_text (scalar_at old)) result (option_and_then get (next_text old))
 parsed_gives from_str make get old (Ok v) good bad h = ap (option_and_then get) h.1 ∙ good h.0 v h.2
-parsed_gives from_str make get old (Err e) good bad (inl h) = rejects_further (is_text (tree_at old)) (is_text (tree_at old)) e (next_text old) _ h (λ none. ap (option_and_then get) none) (λ n. n)
-parsed_gives from_str make get old (Err e) good bad (inr h) = rejects_custom (is_text (tree_at old)) e (option_and_then get (next_text old)) h.0 (ap (option_and_then get) h.1.2 ∙ bad h.1.0 h.1.1 h.1.3)
+parsed_gives from_str make get old (Err e) good bad (inl h) = rejects_further (is_text (scalar_at old)) (is_text (scalar_at old)) e (next_text old) _ h (λ none. ap (option_and_then get) none) (λ n. n)
+parsed_gives from_str make get old (Err e) good bad (inr h) = rejects_custom (is_text (scalar_at old)) e (option_and_then get (next_text old)) h.0 (ap (option_and_then get) h.1.2 ∙ bad h.1.0 h.1.1 h.1.3)
 
 -- a number of 128 bits, as a step gives it
 takes_notes : (old new : TreeFormat) → Takes old new → Notes old new
@@ -169,7 +169,7 @@ module _ {E : Type 0} (from_str : List ℕ → Result ℕ E → Type 0) (is : (t
   unsigned_none t e h = ap (option_map d.unsigned) (unsigned_bad 128 128 t (is t (Err e) h) (omega arith) (omega arith))
 
   pub unsigned_parsed : (old : TreeFormat) (result : Result ℕ ReadError) → ReturnsParsed from_str old result → Returns d.unsigned old (s.Shape.unsigned 128) result
-  unsigned_parsed old result h = subst (ReadGives d.unsigned (is_text (tree_at old)) result) (sym (unsigned_next old)) (parsed_gives from_str d.unsigned (unsigned_data 128) old result unsigned_good unsigned_none h)
+  unsigned_parsed old result h = subst (ReadGives d.unsigned (is_text (scalar_at old)) result) (sym (unsigned_next old)) (parsed_gives from_str d.unsigned (unsigned_data 128) old result unsigned_good unsigned_none h)
 
 module _ {E : Type 0} (from_str : List ℕ → Result ℤ E → Type 0) (is : (t : List ℕ) (r : Result ℤ E) → from_str t r → ParsesSigned w128 10 t r) where
   signed_good : (t : List ℕ) (v : ℤ) → from_str t (Ok v) → signed_data 128 t ≡ Some (d.signed v)
@@ -185,8 +185,8 @@ module _ {E : Type 0} (from_str : List ℕ → Result ℤ E → Type 0) (is : (t
   signed_none t e h = ap (option_map d.signed) (signed_bad w128 (2 ^ 127) 128 t half_128 (is t (Err e) h) (omega arith) (omega arith))
 
   pub signed_parsed : (old : TreeFormat) (result : Result ℤ ReadError) → ReturnsParsed from_str old result → Returns d.signed old (s.Shape.signed 128) result
-  signed_parsed old result h = subst (ReadGives d.signed (is_text (tree_at old)) result) (sym (signed_next old)) (parsed_gives from_str d.signed (signed_data 128) old result signed_good signed_none h)
+  signed_parsed old result h = subst (ReadGives d.signed (is_text (scalar_at old)) result) (sym (signed_next old)) (parsed_gives from_str d.signed (signed_data 128) old result signed_good signed_none h)
 
 pub float_parsed : {E : Type 0} (format : Format) (from_str : List ℕ → Result Float E → Type 0) → ((t : List ℕ) (r : Result Float E) → from_str t r → IsParseFloatResult format t r) → (old : TreeFormat) (result : Result Float ReadError)
-    → ReturnsParsed from_str old result → ReadGives (λ x. x) (is_text (tree_at old)) result (next_float format old)
+    → ReturnsParsed from_str old result → ReadGives (λ x. x) (is_text (scalar_at old)) result (next_float format old)
 float_parsed format from_str is old result h = parsed_gives from_str (λ x. x) (parse_float format) old result (λ t v p. is t (Ok v) p) (λ t e p. is t (Err e) p) h

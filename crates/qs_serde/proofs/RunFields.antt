@@ -1,5 +1,5 @@
 -- The fields of a struct, as their entries are read.
-use Rattle.std.proofs.Common.{◌≡◌, inl, inr, ℕ, zero, suc, ◌==◌, ◌||◌, ◌&&◌, not, cond, Any, HoldsAt, ◌+◌, ◌<◌, ◌≤◌, Bool, true, false, List, [], ◌∷◌, length, slice_get, Option, Some, None, IsSome, refl, sym, ap, subst, ◌∙◌, arith}
+use Rattle.std.proofs.Common.{◌≡◌, inl, inr, ℕ, zero, suc, ◌==◌, ◌||◌, ◌&&◌, not, cond, Any, HoldsAt, ◌+◌, ◌-◌, ◌<◌, ◌≤◌, Bool, true, false, List, [], ◌∷◌, length, slice_get, Option, Some, None, IsSome, is_some, refl, sym, ap, subst, ◌∙◌, arith}
 use Rattle.std.specs.Option.{option_map, option_and_then}
 use Rattle.std.specs.Borrow.{Bor}
 use Rattle.qs_data.proofs.Common.{cases_Bool, false≢true, nat_tests}
@@ -22,9 +22,9 @@ use Rattle.qs_spec.specs.internal.ReadFunction.{Reader, reads, reads_names, read
 use Rattle.qs_tree.specs.declared.tree.value.ParsedValue.{ParsedValue}
 use Rattle.qs_tree.specs.tree.Views.{entry_list, tree_of}
 use Rattle.qs_serde.specs.Nodes.{key_tree, pairs_in}
-use Rattle.qs_serde.specs.Places.{count_of, part_tree}
+use Rattle.qs_serde.specs.Places.{count_of, innermost, is_tried_part, part_tree}
 use Rattle.qs_serde.specs.Runs.{AreNamed, collected, field_at, read_of, slot}
-use Rattle.qs_serde.specs.Steps.{HasNoEntry, is_held, kind_of_struct, node_unless_key}
+use Rattle.qs_serde.specs.Steps.{HasNoEntry, is_whole, kind_of_struct, node_at_part, part_struct}
 use Rattle.qs_serde.specs.declared.reading.frame.Frame.{Frame}
 use Rattle.qs_serde.specs.declared.reading.frame.FrameKind.TheVariants as k
 use Rattle.qs_serde.specs.declared.reading.node.Part.{Part}
@@ -183,21 +183,22 @@ IsOfStruct (leaf Null) = Unit {0}
 IsOfStruct (mapping es) = Unit {0}
 IsOfStruct _ = ⊥
 
-pub of_struct : (q : Part) (node : Tree) → is_held q ≡ false → option_and_then (kind_of_struct (is_held q)) (node_unless_key q node) ≡ Some k.Fields → IsOfStruct node
-of_struct p.Key node h e = absurd cc
-of_struct p.Held node h e = absurd cc
-of_struct p.Value (leaf NoValue) h e = tt
-of_struct p.Value (leaf Null) h e = tt
-of_struct p.Value (leaf (Text b m)) h e = absurd cc
-of_struct p.Value (sequence xs) h e = absurd cc
-of_struct p.Value (mapping es) h e = tt
-of_struct p.Value uninitialized h e = absurd cc
-of_struct p.NoValue (leaf NoValue) h e = tt
-of_struct p.NoValue (leaf Null) h e = tt
-of_struct p.NoValue (leaf (Text b m)) h e = absurd cc
-of_struct p.NoValue (sequence xs) h e = absurd cc
-of_struct p.NoValue (mapping es) h e = tt
-of_struct p.NoValue uninitialized h e = absurd cc
+of_part : (short : Bool) (node : Tree) → part_struct short node ≡ Some k.Fields → IsOfStruct node
+of_part short (leaf NoValue) e = tt
+of_part short (leaf Null) e = tt
+of_part short (leaf (Text b m)) e = absurd cc
+of_part true (sequence xs) e = absurd cc
+of_part false (sequence xs) e = absurd cc
+of_part short (mapping es) e = tt
+of_part short uninitialized e = absurd cc
+
+pub of_struct : (q : Part) (short : Bool) (node : Tree) → is_tried_part q ≡ false → option_and_then (kind_of_struct (is_whole q) short) (node_at_part q node) ≡ Some k.Fields → IsOfStruct node
+of_struct p.Value short node t e = of_part short node e
+of_struct p.Held short node t e = of_part short node e
+of_struct p.NoValue short node t e = of_part short node e
+of_struct p.Key short node t e = absurd cc
+of_struct p.Whole short node t e = absurd cc
+of_struct p.Nothing short node t e = absurd cc
 
 pub pairs_of_struct : (t : Tree) → IsOfStruct t → pairs_in t ≡ entry_list (entries_in t)
 pairs_of_struct (leaf NoValue) h = refl
@@ -207,19 +208,34 @@ pairs_of_struct (sequence xs) h = absurd h
 pairs_of_struct (mapping es) h = refl
 pairs_of_struct uninitialized h = absurd h
 
+struct_part : (allowed : Entries → Bool) (names : Entries → Option (List d.Named)) (places : Items → Option (List d.Named)) (ms : List d.Named) (node : Tree) → IsOfStruct node → names (entries_in node) ≡ Some ms
+    → allowed (entries_in node) ≡ true → struct_members allowed names places node ≡ Some ms
+unfolding struct_members
+struct_part allowed names places ms (leaf NoValue) of got ok = got
+struct_part allowed names places ms (leaf Null) of got ok = got
+struct_part allowed names places ms (leaf (Text b m)) of got ok = absurd of
+struct_part allowed names places ms (sequence xs) of got ok = absurd of
+struct_part allowed names places ms (mapping es) of got ok = ap (option_and_then (λ x. cond (allowed es) (Some x) None)) got ∙ ap (λ b. cond b (Some ms) None) ok
+struct_part allowed names places ms uninitialized of got ok = absurd of
+
 pub struct_here : (allowed : Entries → Bool) (names : Entries → Option (List d.Named)) (places : Items → Option (List d.Named)) (ms : List d.Named) (q : Part) (node top : Tree) (at : ℕ)
-    → (q ≡ p.NoValue → node ≡ leaf Null) → is_held q ≡ false → option_and_then (kind_of_struct (is_held q)) (node_unless_key q node) ≡ Some k.Fields → names (entries_in node) ≡ Some ms → allowed (entries_in node) ≡ true
+    → (q ≡ p.NoValue → node ≡ leaf Null) → is_tried_part q ≡ false → is_some (node_at_part q node) ≡ true → IsOfStruct node → names (entries_in node) ≡ Some ms → allowed (entries_in node) ≡ true
     → struct_members allowed names places (part_tree q node top at) ≡ Some ms
 unfolding struct_members
-struct_here allowed names places ms p.Key node top at null held e got ok = absurd cc
-struct_here allowed names places ms p.Held node top at null held e got ok = absurd cc
-struct_here allowed names places ms p.NoValue node top at null held e got ok = ap (λ t. names (entries_in t)) (sym (null refl)) ∙ got
-struct_here allowed names places ms p.Value (leaf NoValue) top at null held e got ok = got
-struct_here allowed names places ms p.Value (leaf Null) top at null held e got ok = got
-struct_here allowed names places ms p.Value (leaf (Text b m)) top at null held e got ok = absurd cc
-struct_here allowed names places ms p.Value (sequence xs) top at null held e got ok = absurd cc
-struct_here allowed names places ms p.Value (mapping es) top at null held e got ok = ap (option_and_then (λ x. cond (allowed es) (Some x) None)) got ∙ ap (λ b. cond b (Some ms) None) ok
-struct_here allowed names places ms p.Value uninitialized top at null held e got ok = absurd cc
+struct_here allowed names places ms p.Value node top at null t some of got ok = struct_part allowed names places ms node of got ok
+struct_here allowed names places ms p.Held node top at null t some of got ok = struct_part allowed names places ms node of got ok
+struct_here allowed names places ms p.NoValue node top at null t some of got ok = ap (λ t. names (entries_in t)) (sym (null refl)) ∙ got
+struct_here allowed names places ms p.Key node top at null t some of got ok = absurd cc
+struct_here allowed names places ms p.Whole node top at null t some of got ok = absurd cc
+struct_here allowed names places ms p.Nothing node top at null t some of got ok = absurd cc
+
+pub some_node : (q : Part) (node : Tree) (short : Bool) → option_and_then (kind_of_struct (is_whole q) short) (node_at_part q node) ≡ Some k.Fields → is_some (node_at_part q node) ≡ true
+some_node p.Value node short e = refl
+some_node p.Held node short e = refl
+some_node p.NoValue node short e = refl
+some_node p.Key node short e = absurd cc
+some_node p.Whole node short e = refl
+some_node p.Nothing node short e = absurd cc
 
 -- the entries of the innermost map from here on: what was read of each field, and that their keys are allowed
 abbrev pub FieldsRead : Bool → s.UnknownKeys → s.Fields → Entries → List (ℕ × d.Data) → Type 0

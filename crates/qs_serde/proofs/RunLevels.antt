@@ -1,5 +1,5 @@
 -- Where a format is while a value is read: the open lists and maps, and the item that is next.
-use Rattle.std.proofs.Common.{◌≡◌, ◌⊎◌, ◌↔◌, inl, inr, ℕ, suc, ◌+◌, ◌-◌, ◌<◌, ◌++◌, Bool, List, [], ◌∷◌, length, drop, Option, Some, None, IsSome, option_to_list, refl, sym, ap, subst, ◌∙◌, arith}
+use Rattle.std.proofs.Common.{◌≡◌, ◌⊎◌, ◌↔◌, inl, inr, ℕ, suc, ◌+◌, ◌-◌, ◌<◌, ◌++◌, Bool, true, false, List, [], ◌∷◌, length, drop, Option, Some, None, IsSome, option_to_list, refl, sym, ap, subst, ◌∙◌, arith}
 use Rattle.std.specs.Option.{option_map, option_and_then}
 use Rattle.std.specs.Borrow.{Bor}
 use Rattle.qs_spec.specs.Data as d
@@ -14,9 +14,9 @@ use Rattle.qs_tree.specs.declared.tree.value.ParsedValue.{ParsedValue}
 use Rattle.qs_tree.specs.tree.Views.{tree_of}
 use Rattle.qs_data.proofs.lemmas.read.Items.{first_some}
 use Rattle.qs_serde.specs.Nodes.{key_tree, listed}
-use Rattle.qs_serde.specs.Places.{count_of, innermost, opens, part_tree, part_view, passed, tree_at}
-use Rattle.qs_serde.specs.Runs.{IsLevel, IsReady}
-use Rattle.qs_serde.specs.Steps.{Begins, Comes, Empties, Leaves, Moves, next_items, node_unless_key}
+use Rattle.qs_serde.specs.Places.{count_of, innermost, is_tried_part, opens, part_tree, part_view, passed, scalar_at, scalar_of, tree_at, value_part}
+use Rattle.qs_serde.specs.Runs.{IsDirect, IsLevel, IsReady}
+use Rattle.qs_serde.specs.Steps.{Begins, Comes, Empties, Keeps, Leaves, Moves, is_whole, items_at, next_items, node_at_part}
 use Rattle.qs_serde.specs.declared.reading.frame.Frame.{Frame}
 use Rattle.qs_serde.specs.declared.reading.frame.Outer.{Outer}
 use Rattle.qs_serde.specs.declared.reading.frame.FrameKind.{FrameKind}
@@ -64,12 +64,36 @@ pub counted_some : (a : Option Frame) (n : ℕ) → passed a ≡ suc n → IsSom
 counted_some (Some a) n h = refl
 counted_some None n h = absurd cc
 
+-- the tree is read as it is after a step, too
+pub on : (old new : TreeFormat) → Keeps old new → IsDirect old → IsDirect new
+on old new h d = (ap (λ x. x.in_order) h.1 ∙ d.0, h.3 d.1)
+
+-- what is next, as a scalar reads it
+scalar_same : (q : Part) (t : Tree) → is_tried_part q ≡ false → scalar_of q t ≡ t
+scalar_same p.Value t h = refl
+scalar_same p.Held t h = refl
+scalar_same p.NoValue t h = refl
+scalar_same p.Key t h = refl
+scalar_same p.Whole t h = absurd cc
+scalar_same p.Nothing t h = absurd cc
+
+pub in_tree : (rd : Bool) (a : s.Shape) (old : TreeFormat) (x : d.Data) → IsReady old → reads rd a (scalar_at old) ≡ Some x → reads rd a (tree_at old) ≡ Some x
+in_tree rd a old x ready h = subst (λ t. reads rd a t ≡ Some x) (scalar_same old.part (tree_at old) ready.whole) h
+
+-- the part that is read first
+pub first_part : (b : Bool) (q : Part) → b ≡ false → q ≡ value_part b → q ≡ p.Value
+first_part false q e h = h
+first_part true q e h = absurd cc
+
 -- a value that is next, as a list and in an option
-pub items_here : (q : Part) (node top : Tree) (at : ℕ) → (q ≡ p.NoValue → node ≡ leaf Null) → option_and_then items (node_unless_key q node) ≡ Some (listed node) → items (part_tree q node top at) ≡ Some (listed node)
-items_here p.Value node top at e h = h
-items_here p.Held node top at e h = h
-items_here p.NoValue node top at e h = ap (λ t. Some (listed t)) (sym (e refl))
-items_here p.Key node top at e h = absurd cc
+pub items_here : (q : Part) (node top : Tree) (at : ℕ) → (q ≡ p.NoValue → node ≡ leaf Null) → is_tried_part q ≡ false → option_and_then (items_at (is_whole q)) (node_at_part q node) ≡ Some (listed node)
+    → items (part_tree q node top at) ≡ Some (listed node)
+items_here p.Value node top at e t h = h
+items_here p.Held node top at e t h = h
+items_here p.NoValue node top at e t h = ap (λ t. Some (listed t)) (sym (e refl))
+items_here p.Key node top at e t h = absurd cc
+items_here p.Whole node top at e t h = absurd cc
+items_here p.Nothing node top at e t h = absurd cc
 
 pub option_full : (r : Reader) (t : Tree) → IsFull t → read_option r t ≡ option_map d.some (r t)
 option_full r (leaf NoValue) h = absurd h
@@ -88,32 +112,36 @@ empty_node p.Value node top at h = h
 empty_node p.Held node top at h = h
 empty_node p.NoValue node top at h = absurd cc
 empty_node p.Key node top at h = absurd (text_key _ h)
+empty_node p.Whole node top at h = h
+empty_node p.Nothing node top at h = absurd cc
 
 -- what is taken keeps the level
-pub taken : (old new : TreeFormat) → new.frame ≡ old.frame → new.around.items ≡ old.around.items → new.top ≡ old.top → new.reader ≡ old.reader → new.search.in_order ≡ old.search.in_order → IsLevel old new
-taken old new frame around top reader plain = record {
+pub taken : (old new : TreeFormat) → new.frame ≡ old.frame → new.around.items ≡ old.around.items → new.top ≡ old.top → new.reader ≡ old.reader → (IsDirect old → IsDirect new) → IsLevel old new
+taken old new frame around top reader direct = record {
   opened = ap (λ os. os ++ option_to_list (innermost new.top new.frame)) around ∙ ap (λ t. old.around.items ++ option_to_list (innermost t new.frame)) top
       ∙ ap (λ f. old.around.items ++ option_to_list (innermost old.top f)) frame;
   open_as = (subst IsSome frame, subst IsSome (sym frame));
   reader = reader;
-  plain = plain;
+  direct = direct;
 }
 
 -- a list that was begun and left
 pub map_level : (old first new : TreeFormat) (kind : FrameKind) → IsReady old → Begins old kind first → first.around.items ≡ opens new → IsSome new.frame ↔ (0 < length first.around.items) → new.reader ≡ first.reader
-    → new.search.in_order ≡ first.search.in_order → IsLevel old new
-map_level old first new kind ready begins left shown reader plain =
+    → (IsDirect first → IsDirect new) → IsLevel old new
+map_level old first new kind ready begins left shown reader direct =
     let some = open_if old.around.items old.top old.frame ready.outer in record {
       opened = sym left ∙ begins.around;
       open_as = (λ h. some.0 (subst (λ os. 0 < length os) begins.around (shown.0 h)), λ h. shown.1 (subst (λ os. 0 < length os) (sym begins.around) (some.1 h)));
       reader = reader ∙ begins.keeps.0;
-      plain = plain ∙ ap (λ x. x.in_order) begins.keeps.1;
+      direct = λ h. direct (on old first begins.keeps h);
     }
 
 -- an item that came may be read, and was read
-pub come_ready : (old come : TreeFormat) → come.part ≡ p.Value → Moves (count_of old) old come → IsReady come
-come_ready old come part moves = record {
+pub come_ready : (old come : TreeFormat) → come.part ≡ p.Value → come.is_tried ≡ false → Moves (count_of old) old come → IsReady come
+come_ready old come part tried moves = record {
   part = λ e. absurd (let n : p.Value ≡ p.NoValue = sym part ∙ e in cc);
+  whole = ap is_tried_part part;
+  tried = tried;
   outer = inl (counted_some come.frame (count_of old) moves.count);
 }
 
@@ -126,7 +154,7 @@ pub record AfterItem (old read : TreeFormat) : Type 0 where
   pub top : read.top ≡ old.top
   pub begun : IsSome read.frame
   pub reader : read.reader ≡ old.reader
-  pub plain : read.search.in_order ≡ old.search.in_order
+  pub direct : IsDirect old → IsDirect read
 
 pub after_item : (old come read : TreeFormat) → Moves (count_of old) old come → IsLevel come read → AfterItem old read
 after_item old come read moves l =
@@ -139,7 +167,7 @@ after_item old come read moves l =
       top = same.2 ∙ moves.top;
       begun = is;
       reader = l.reader ∙ moves.keeps.0;
-      plain = l.plain ∙ ap (λ x. x.in_order) moves.keeps.1;
+      direct = λ h. l.direct (on old come moves.keeps h);
     }
 
 -- the items from here on
@@ -154,17 +182,17 @@ one_more old come read h a = first_some (listed (tree_of old.top.now)) (count_of
 
 -- the list was left
 abbrev pub IsLeft : TreeFormat → TreeFormat → Type 0
-IsLeft old new = (old.around.items ≡ opens new) × (IsSome new.frame ↔ (0 < length old.around.items)) × (new.reader ≡ old.reader) × (new.search.in_order ≡ old.search.in_order)
+IsLeft old new = (old.around.items ≡ opens new) × (IsSome new.frame ↔ (0 < length old.around.items)) × (new.reader ≡ old.reader) × (IsDirect old → IsDirect new)
 
 pub left : (old new : TreeFormat) → Leaves old new → IsLeft old new
-left old new h = (h.0, h.1, h.3.0, ap (λ x. x.in_order) h.3.1)
+left old new h = (h.0, h.1, h.3.0, λ d. on old new h.3 d)
 
 pub left_after : (old read new : TreeFormat) → AfterItem old read → IsLeft read new → IsLeft old new
 left_after old read new a h = (
   sym a.around ∙ h.0,
   (λ x. subst (λ os. 0 < length os) a.around (h.1.0 x), λ x. h.1.1 (subst (λ os. 0 < length os) (sym a.around) x)),
   h.2 ∙ a.reader,
-  h.3 ∙ a.plain,
+  λ d. h.3 (a.direct d),
 )
 
 abbrev pub Read : Bool → s.Shape → TreeFormat → d.Data → TreeFormat → Type 0
@@ -172,24 +200,24 @@ Read rd a old x new = (reads rd a (tree_at old) ≡ Some x) × IsLevel old new
 
 pub begun_items : (old first : TreeFormat) → IsReady old → Begins old k.Items first → next_items old ≡ Some (listed (tree_of old.node.now)) → items (tree_at old) ≡ Some (rest_of first)
 begun_items old first ready begins h =
-    items_here old.part (tree_of old.node.now) (tree_of old.top.now) (count_of old - 1) ready.part h
+    items_here old.part (tree_of old.node.now) (tree_of old.top.now) (count_of old - 1) ready.part ready.whole h
     ∙ ap (λ (v : Bor ParsedValue). Some (listed (tree_of v.now))) (sym begins.top)
     ∙ ap (λ f. Some (drop (passed f) (listed (tree_of first.top.now)))) (sym begins.frame)
 
-pub item_got : (rd : Bool) (a : s.Shape) (old come read : TreeFormat) (x : d.Data) → Comes old come → Read rd a come x read → (reads rd a (tree_of come.node.now) ≡ Some x) × AfterItem old read
-item_got rd a old come read x comes got = (ap (reads rd a) (sym (come_tree come comes.part)) ∙ got.0, after_item old come read comes.moves got.1)
+pub item_got : (rd : Bool) (a : s.Shape) (old come read : TreeFormat) (x : d.Data) → Comes old come → old.is_tried ≡ false → Read rd a come x read → (reads rd a (tree_of come.node.now) ≡ Some x) × AfterItem old read
+item_got rd a old come read x comes tried got = (ap (reads rd a) (sym (come_tree come (first_part old.is_tried come.part tried comes.part))) ∙ got.0, after_item old come read comes.moves got.1)
 
 pub empty_ready : (old : TreeFormat) → tree_at old ≡ leaf Null → IsReady old → IsReady (record old { part = p.NoValue })
-empty_ready old null ready = record { part = λ _. empty_node old.part (tree_of old.node.now) (tree_of old.top.now) (count_of old - 1) null; outer = ready.outer }
+empty_ready old null ready = record { part = λ _. empty_node old.part (tree_of old.node.now) (tree_of old.top.now) (count_of old - 1) null; whole = refl; tried = ready.tried; outer = ready.outer }
 
-pub some_full : (rd : Bool) (b : s.Shape) (old looked new : TreeFormat) (x : d.Data) → (looked ≡ old) × IsFull (tree_at old) → Read rd b looked x new → Read rd (s.Shape.option b) old (d.some x) new
+pub some_full : (rd : Bool) (b : s.Shape) (old looked new : TreeFormat) (x : d.Data) → looked ≡ old → IsFull (tree_at old) → Read rd b looked x new → Read rd (s.Shape.option b) old (d.some x) new
 unfolding reads
-some_full rd b old looked new x (same, full) given =
+some_full rd b old looked new x same full given =
     let got = subst (λ f. Read rd b f x new) same given in
     (option_full (reads rd b) (tree_at old) full ∙ ap (option_map d.some) got.0, got.1)
 
 pub some_empty : (rd : Bool) (b : s.Shape) (old looked new : TreeFormat) (x : d.Data) → Empties old looked → Read rd b looked x new → Read rd (s.Shape.option b) old (d.some x) new
 unfolding reads
-some_empty rd b old looked new x (null, same) given =
+some_empty rd b old looked new x (null, whole, same) given =
     let got = subst (λ f. Read rd b f x new) same given in
-    (ap (λ t. read_option (reads rd b) t) null ∙ ap (option_map d.some) got.0, record { opened = got.1.opened; open_as = got.1.open_as; reader = got.1.reader; plain = got.1.plain })
+    (ap (λ t. read_option (reads rd b) t) null ∙ ap (option_map d.some) got.0, record { opened = got.1.opened; open_as = got.1.open_as; reader = got.1.reader; direct = got.1.direct })

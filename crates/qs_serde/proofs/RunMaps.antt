@@ -18,10 +18,10 @@ use Rattle.qs_spec.specs.internal.ReadFunction.{Reader, reads, read_map, read_pa
 use Rattle.qs_tree.specs.declared.tree.value.ParsedValue.{ParsedValue}
 use Rattle.qs_tree.specs.tree.Views.{entry_list, tree_of}
 use Rattle.qs_serde.specs.Nodes.{key_tree, pairs_in}
-use Rattle.qs_serde.specs.Places.{count_of, part_tree, part_view, tree_at}
+use Rattle.qs_serde.specs.Places.{count_of, is_tried_part, part_tree, part_view, scalar_at, scalar_of, tree_at, value_part}
 use Rattle.qs_serde.specs.Runs.{IsLevel, IsReady, KeyRun}
 use Rattle.qs_serde.specs.Runs.KeyRun.{boolean_key, unsigned_key, signed_key, character_key, text_key}
-use Rattle.qs_serde.specs.Steps.{HasParts, IsPlain, Moves, node_unless_key, part_after}
+use Rattle.qs_serde.specs.Steps.{HasParts, IsPlain, Moves, node_at_part, part_after}
 use Rattle.qs_serde.specs.declared.reading.frame.FrameKind.TheVariants as k
 use Rattle.qs_serde.specs.declared.reading.node.Part.{Part}
 use Rattle.qs_serde.specs.declared.reading.node.Part.TheVariants as p
@@ -53,45 +53,52 @@ map_of key r (sequence xs) h = absurd cc
 map_of key r (mapping es) h = refl
 map_of key r uninitialized h = absurd cc
 
-pub map_here : (key : s.KeyShape) (r : Reader) (q : Part) (node top : Tree) (at : ℕ) → (q ≡ p.NoValue → node ≡ leaf Null) → HasParts k.Map node → node_unless_key q node ≡ Some node
+pub map_here : (key : s.KeyShape) (r : Reader) (q : Part) (node top : Tree) (at : ℕ) → (q ≡ p.NoValue → node ≡ leaf Null) → is_tried_part q ≡ false → HasParts k.Map node → node_at_part q node ≡ Some node
     → read_map key r (part_tree q node top at) ≡ read_pairs key r (map_entries node)
 unfolding read_map
-map_here key r p.Value node top at null has is = map_of key r node has
-map_here key r p.Held node top at null has is = map_of key r node has
-map_here key r p.NoValue node top at null has is = ap (λ t. read_pairs key r (map_entries t)) (sym (null refl))
-map_here key r p.Key node top at null has is = absurd (none-some node is)
+map_here key r p.Value node top at null t has is = map_of key r node has
+map_here key r p.Held node top at null t has is = map_of key r node has
+map_here key r p.NoValue node top at null t has is = ap (λ t. read_pairs key r (map_entries t)) (sym (null refl))
+map_here key r p.Key node top at null t has is = absurd (none-some node is)
+map_here key r p.Whole node top at null t has is = absurd cc
+map_here key r p.Nothing node top at null t has is = absurd cc
 
 -- a key was read, and its value is next
 abbrev pub IsNext : TreeFormat → TreeFormat → Type 0
 IsNext come next = (next.part ≡ p.Value) × (next.node ≡ come.node) × IsLevel come next
 
-pub key_next : (key : s.KeyShape) (come : TreeFormat) (x : d.Data) (next : TreeFormat) → KeyRun key come x next → come.part ≡ p.Key → IsNext come next
-key_next key come x next (boolean_key h) is = subst (IsNext come) (sym h.0) (ap part_after is, refl, taken come _ refl refl refl refl refl)
-key_next key come x next (unsigned_key h lt) is = subst (IsNext come) (sym h.0) (ap part_after is, refl, taken come _ refl refl refl refl refl)
-key_next key come x next (signed_key h low high) is = subst (IsNext come) (sym h.0) (ap part_after is, refl, taken come _ refl refl refl refl refl)
-key_next key come x next (character_key h) is = subst (IsNext come) (sym h.0) (ap part_after is, refl, taken come _ refl refl refl refl refl)
-key_next key come x next (text_key h) is = subst (IsNext come) (sym h.0) (ap part_after is, refl, taken come _ refl refl refl refl refl)
+value_after : (come : TreeFormat) → come.part ≡ p.Key → come.is_tried ≡ false → part_after come.is_tried come.part ≡ p.Value
+value_after come is tried = ap (part_after come.is_tried) is ∙ ap value_part tried
+
+pub key_next : (key : s.KeyShape) (come : TreeFormat) (x : d.Data) (next : TreeFormat) → KeyRun key come x next → come.part ≡ p.Key → come.is_tried ≡ false → IsNext come next
+key_next key come x next (boolean_key h) is tried = subst (IsNext come) (sym h.0) (value_after come is tried, refl, taken come _ refl refl refl refl (λ d. d))
+key_next key come x next (unsigned_key h lt) is tried = subst (IsNext come) (sym h.0) (value_after come is tried, refl, taken come _ refl refl refl refl (λ d. d))
+key_next key come x next (signed_key h low high) is tried = subst (IsNext come) (sym h.0) (value_after come is tried, refl, taken come _ refl refl refl refl (λ d. d))
+key_next key come x next (character_key h) is tried = subst (IsNext come) (sym h.0) (value_after come is tried, refl, taken come _ refl refl refl refl (λ d. d))
+key_next key come x next (text_key h) is tried = subst (IsNext come) (sym h.0) (value_after come is tried, refl, taken come _ refl refl refl refl (λ d. d))
 
 -- what was read of it is what its text is read as
-by_key : (rd : Bool) (a : s.Shape) (come : TreeFormat) (x : d.Data) (t : List ℕ) → reads come.reader.reject_duplicates a (tree_at come) ≡ Some x → come.reader.reject_duplicates ≡ rd → tree_at come ≡ leaf (Text t false)
+by_key : (rd : Bool) (a : s.Shape) (come : TreeFormat) (x : d.Data) (t : List ℕ) → reads come.reader.reject_duplicates a (scalar_at come) ≡ Some x → come.reader.reject_duplicates ≡ rd → come.part ≡ p.Key → tree_at come ≡ leaf (Text t false)
     → reads rd a (leaf (Text t false)) ≡ Some x
-by_key rd a come x t h e is = subst (λ q. reads q a (leaf (Text t false)) ≡ Some x) e (subst (λ u. reads come.reader.reject_duplicates a u ≡ Some x) is h)
+by_key rd a come x t h e part is = subst (λ q. reads q a (leaf (Text t false)) ≡ Some x) e (subst (λ u. reads come.reader.reject_duplicates a u ≡ Some x) (ap (λ q. scalar_of q (tree_at come)) part ∙ is) h)
 
-pub key_read : (rd : Bool) (key : s.KeyShape) (come : TreeFormat) (x : d.Data) (next : TreeFormat) (t : List ℕ) → KeyRun key come x next → come.reader.reject_duplicates ≡ rd → IsPlain come
+pub key_read : (rd : Bool) (key : s.KeyShape) (come : TreeFormat) (x : d.Data) (next : TreeFormat) (t : List ℕ) → KeyRun key come x next → come.reader.reject_duplicates ≡ rd → IsPlain come → come.part ≡ p.Key
     → tree_at come ≡ leaf (Text t false) → key_data key t ≡ Some x
 unfolding reads
-key_read rd key come x next t (boolean_key h) e plain is = by_key rd s.Shape.boolean come x t h.1 e is
-key_read rd key come x next t (unsigned_key {bits = bits} {m = m} h lt) e plain is =
-    by_key rd (s.Shape.unsigned bits) come x t (unsigned_of come.reader.reject_duplicates 128 bits (tree_at come) m (λ _. omega (arith, lt)) (h.1 plain)) e is
-key_read rd key come x next t (signed_key {bits = bits} {z = z} h low high) e plain is =
-    by_key rd (s.Shape.signed bits) come x t (signed_of come.reader.reject_duplicates 128 bits (tree_at come) z (λ n same _. omega (arith, ints)) (λ n same _. omega (arith, ints)) (h.1 plain)) e is
-key_read rd key come x next t (character_key h) e plain is = by_key rd s.Shape.character come x t h.1 e is
-key_read rd key come x next t (text_key h) e plain is = by_key rd s.Shape.text come x t h.1 e is
+key_read rd key come x next t (boolean_key h) e plain part is = by_key rd s.Shape.boolean come x t h.1 e part is
+key_read rd key come x next t (unsigned_key {bits = bits} {m = m} h lt) e plain part is =
+    by_key rd (s.Shape.unsigned bits) come x t (unsigned_of come.reader.reject_duplicates 128 bits (scalar_at come) m (λ _. omega (arith, lt)) (h.1 plain)) e part is
+key_read rd key come x next t (signed_key {bits = bits} {z = z} h low high) e plain part is =
+    by_key rd (s.Shape.signed bits) come x t (signed_of come.reader.reject_duplicates 128 bits (scalar_at come) z (λ n same _. omega (arith, ints)) (λ n same _. omega (arith, ints)) (h.1 plain)) e part is
+key_read rd key come x next t (character_key h) e plain part is = by_key rd s.Shape.character come x t h.1 e part is
+key_read rd key come x next t (text_key h) e plain part is = by_key rd s.Shape.text come x t h.1 e part is
 
 -- where its value is
-pub value_ready : (old come next : TreeFormat) → Moves (count_of old) old come → IsNext come next → IsReady next
-value_ready old come next moves h = record {
+pub value_ready : (old come next : TreeFormat) → Moves (count_of old) old come → IsNext come next → next.is_tried ≡ false → IsReady next
+value_ready old come next moves h tried = record {
   part = λ e. absurd (let n : p.Value ≡ p.NoValue = sym h.0 ∙ e in cc);
+  whole = ap is_tried_part h.0;
+  tried = tried;
   outer = inl (h.2.open_as.1 (counted_some come.frame (count_of old) moves.count));
 }
 
@@ -103,7 +110,7 @@ levels come next read a b = record {
   opened = b.opened ∙ a.opened;
   open_as = (λ h. a.open_as.0 (b.open_as.0 h), λ h. b.open_as.1 (a.open_as.1 h));
   reader = b.reader ∙ a.reader;
-  plain = b.plain ∙ a.plain;
+  direct = λ h. b.direct (a.direct h);
 }
 
 -- the key that is next is the due entry's

@@ -1,5 +1,5 @@
 -- What the steps of a value gave is what its shape reads.
-use Rattle.std.proofs.Common.{◌≡◌, inl, inr, ℕ, ◌-◌, Bool, true, List, Some, IsSome, refl, sym, ap, subst, ◌∙◌, arith}
+use Rattle.std.proofs.Common.{◌≡◌, inl, inr, ℕ, ◌-◌, Bool, true, false, List, Some, IsSome, refl, sym, ap, subst, ◌∙◌, arith}
 use Rattle.std.specs.Option.{option_map, option_and_then}
 use Rattle.std.specs.Borrow.{Bor}
 use Rattle.qs_serde.proofs.ReadNumbers.{signed_of, unsigned_of}
@@ -14,108 +14,122 @@ use Rattle.qs_tree.specs.declared.tree.value.ParsedValue.{ParsedValue}
 use Rattle.qs_tree.specs.tree.Views.{tree_of}
 use Rattle.qs_data.proofs.lemmas.read.Items.{first_end}
 use Rattle.qs_serde.specs.Nodes.{pairs_in}
-use Rattle.qs_serde.specs.Places.{count_of, passed, tree_at}
-use Rattle.qs_serde.specs.Runs.{AreNamed, IsLevel, IsReady, ItemsRun, MembersRun, PairsRun, PartsRun, Run}
+use Rattle.qs_serde.specs.Places.{count_of, is_tried_part, passed, scalar_at, tree_at}
+use Rattle.qs_serde.specs.Runs.{AreNamed, IsDirect, IsLevel, IsReady, ItemsRun, MembersRun, PairsRun, PartsRun, Run}
 use Rattle.qs_serde.specs.Runs.Run.{boolean_run, signed_run, unsigned_run, character_run, text_run, octets_run, newtype_run, none_run, some_run, sequence_run, mapping_run, struct_run, tuple_run}
 use Rattle.qs_serde.specs.Runs.ItemsRun.{no_item, one_item}
 use Rattle.qs_serde.specs.Runs.MembersRun.{no_member, one_member, other_member}
 use Rattle.qs_serde.specs.Runs.PairsRun.{no_pair, one_pair}
 use Rattle.qs_serde.specs.Runs.PartsRun.{no_part, one_part}
-use Rattle.qs_serde.specs.Steps.{IsPlain}
+use Rattle.qs_serde.specs.Steps.{IsPlain, is_whole}
 use Rattle.qs_serde.specs.declared.reading.frame.FrameKind.TheVariants as k
+use Rattle.qs_serde.specs.declared.reading.node.Part.{Part}
+use Rattle.qs_serde.specs.declared.reading.node.Part.TheVariants as p
 use Rattle.qs_serde.specs.declared.reading.format.TreeFormat.{TreeFormat}
-use Rattle.qs_serde.proofs.RunLevels.{taken, map_level, come_ready, come_tree, after_item, rest_of, one_more, IsLeft, left, left_after, Read, begun_items, item_got, empty_ready, some_full, some_empty}
-use Rattle.qs_serde.proofs.RunFields.{after, after_none, utf8_more, entries_in, IsOfStruct, of_struct, pairs_of_struct, struct_here, FieldsRead, no_fields_read, field_more, other_more, OfMap, of_map_after, entry_due, due, no_entry_due, rest_fields, struct_fields}
+use Rattle.qs_serde.proofs.RunLevels.{taken, on, in_tree, first_part, map_level, come_ready, come_tree, after_item, rest_of, one_more, IsLeft, left, left_after, Read, begun_items, item_got, empty_ready, some_full, some_empty}
+use Rattle.qs_serde.proofs.RunFields.{after, after_none, utf8_more, entries_in, IsOfStruct, of_struct, pairs_of_struct, struct_here, some_node, FieldsRead, no_fields_read, field_more, other_more, OfMap, of_map_after, entry_due, due, no_entry_due, rest_fields, struct_fields}
 use Rattle.qs_serde.proofs.RunMaps.{after_read, key_at, key_next, key_read, levels, map_entries, map_here, pair_more, pairs_of_map, value_ready, value_tree}
+
+not_whole : (q : Part) → is_tried_part q ≡ false → is_whole q ≡ true → ⊥
+not_whole p.Value a b = absurd cc
+not_whole p.Held a b = absurd cc
+not_whole p.NoValue a b = absurd cc
+not_whole p.Key a b = absurd cc
+not_whole p.Whole a b = absurd cc
+not_whole p.Nothing a b = absurd cc
 
 mutual
   unfolding reads read_list read_map struct_members
 
-  pub run_reads : (rd : Bool) (a : s.Shape) (old new : TreeFormat) (x : d.Data) → Run a old x new → old.reader.reject_duplicates ≡ rd → IsPlain old → IsReady old → Read rd a old x new
-  run_reads rd a old new x (boolean_run h) e plain ready = (subst (λ q. reads q s.Shape.boolean (tree_at old) ≡ Some x) e h.1, subst (λ f. IsLevel old f) (sym h.0) (taken old _ refl refl refl refl refl))
-  run_reads rd a old new x (unsigned_run {bits = bits} {m = m} h lt) e plain ready = (
-    unsigned_of rd 128 bits (tree_at old) m (λ _. omega (arith, lt)) (subst (λ q. reads q (s.Shape.unsigned 128) (tree_at old) ≡ Some x) e (h.1 plain)),
-    subst (λ f. IsLevel old f) (sym h.0) (taken old _ refl refl refl refl refl),
+  pub run_reads : (rd : Bool) (a : s.Shape) (old new : TreeFormat) (x : d.Data) → Run a old x new → old.reader.reject_duplicates ≡ rd → IsDirect old → IsReady old → Read rd a old x new
+  run_reads rd a old new x (boolean_run h) e direct ready = (in_tree rd s.Shape.boolean old x ready (subst (λ q. reads q s.Shape.boolean (scalar_at old) ≡ Some x) e h.1), subst (λ f. IsLevel old f) (sym h.0) (taken old _ refl refl refl refl (λ d. d)))
+  run_reads rd a old new x (unsigned_run {bits = bits} {m = m} h lt) e direct ready = (
+    unsigned_of rd 128 bits (tree_at old) m (λ _. omega (arith, lt)) (in_tree rd (s.Shape.unsigned 128) old x ready (subst (λ q. reads q (s.Shape.unsigned 128) (scalar_at old) ≡ Some x) e (h.1 direct.0))),
+    subst (λ f. IsLevel old f) (sym h.0) (taken old _ refl refl refl refl (λ d. d)),
   )
-  run_reads rd a old new x (signed_run {bits = bits} {z = z} h low high) e plain ready = (
-    signed_of rd 128 bits (tree_at old) z (λ n is _. omega (arith, ints)) (λ n is _. omega (arith, ints)) (subst (λ q. reads q (s.Shape.signed 128) (tree_at old) ≡ Some x) e (h.1 plain)),
-    subst (λ f. IsLevel old f) (sym h.0) (taken old _ refl refl refl refl refl),
+  run_reads rd a old new x (signed_run {bits = bits} {z = z} h low high) e direct ready = (
+    signed_of rd 128 bits (tree_at old) z (λ n is _. omega (arith, ints)) (λ n is _. omega (arith, ints)) (in_tree rd (s.Shape.signed 128) old x ready (subst (λ q. reads q (s.Shape.signed 128) (scalar_at old) ≡ Some x) e (h.1 direct.0))),
+    subst (λ f. IsLevel old f) (sym h.0) (taken old _ refl refl refl refl (λ d. d)),
   )
-  run_reads rd a old new x (character_run h) e plain ready = (subst (λ q. reads q s.Shape.character (tree_at old) ≡ Some x) e h.1, subst (λ f. IsLevel old f) (sym h.0) (taken old _ refl refl refl refl refl))
-  run_reads rd a old new x (text_run h) e plain ready = (subst (λ q. reads q s.Shape.text (tree_at old) ≡ Some x) e h.1, subst (λ f. IsLevel old f) (sym h.0) (taken old _ refl refl refl refl refl))
-  run_reads rd a old new x (octets_run h) e plain ready = (subst (λ q. reads q s.Shape.bytes (tree_at old) ≡ Some x) e h.1, subst (λ f. IsLevel old f) (sym h.0) (taken old _ refl refl refl refl refl))
-  run_reads rd a old new x (newtype_run {a = b} h) e plain ready = let got = run_reads rd b old new _ h e plain ready in (ap (option_map d.newtype) got.0, got.1)
-  run_reads rd a old new x (none_run {a = b} is same) e plain ready = (ap (λ t. read_option (reads rd b) t) is, subst (λ f. IsLevel old f) (sym same) (taken old old refl refl refl refl refl))
-  run_reads rd a old new x (some_run {a = b} {looked = looked} {x = y} (inl full) h) e plain ready =
-      let got = run_reads rd b looked new y h (ap (λ (f : TreeFormat). f.reader.reject_duplicates) full.0 ∙ e) (ap (λ (f : TreeFormat). f.search.in_order) full.0 ∙ plain) (subst IsReady (sym full.0) ready) in
-      some_full rd b old looked new y full got
-  run_reads rd a old new x (some_run {a = b} {looked = looked} {x = y} (inr empty) h) e plain ready =
-      let got = run_reads rd b looked new y h (ap (λ (f : TreeFormat). f.reader.reject_duplicates) empty.1 ∙ e) (ap (λ (f : TreeFormat). f.search.in_order) empty.1 ∙ plain) (subst IsReady (sym empty.1) (empty_ready old empty.0 ready)) in
+  run_reads rd a old new x (character_run h) e direct ready = (in_tree rd s.Shape.character old x ready (subst (λ q. reads q s.Shape.character (scalar_at old) ≡ Some x) e h.1), subst (λ f. IsLevel old f) (sym h.0) (taken old _ refl refl refl refl (λ d. d)))
+  run_reads rd a old new x (text_run h) e direct ready = (in_tree rd s.Shape.text old x ready (subst (λ q. reads q s.Shape.text (scalar_at old) ≡ Some x) e h.1), subst (λ f. IsLevel old f) (sym h.0) (taken old _ refl refl refl refl (λ d. d)))
+  run_reads rd a old new x (octets_run h) e direct ready = (in_tree rd s.Shape.bytes old x ready (subst (λ q. reads q s.Shape.bytes (scalar_at old) ≡ Some x) e h.1), subst (λ f. IsLevel old f) (sym h.0) (taken old _ refl refl refl refl (λ d. d)))
+  run_reads rd a old new x (newtype_run {a = b} h) e direct ready = let got = run_reads rd b old new _ h e direct ready in (ap (option_map d.newtype) got.0, got.1)
+  run_reads rd a old new x (none_run {a = b} is same) e direct ready = (ap (λ t. read_option (reads rd b) t) is, subst (λ f. IsLevel old f) (sym same) (taken old old refl refl refl refl (λ d. d)))
+  run_reads rd a old new x (some_run {a = b} {looked = looked} {x = y} (inl (same, inl full)) h) e direct ready =
+      let got = run_reads rd b looked new y h (ap (λ (f : TreeFormat). f.reader.reject_duplicates) same ∙ e) (subst IsDirect (sym same) direct) (subst IsReady (sym same) ready) in
+      some_full rd b old looked new y same full got
+  run_reads rd a old new x (some_run (inl (same, inr text)) h) e direct ready = absurd (not_whole old.part ready.whole text.1)
+  run_reads rd a old new x (some_run {a = b} {looked = looked} {x = y} (inr empty) h) e direct ready =
+      let got = run_reads rd b looked new y h (ap (λ (f : TreeFormat). f.reader.reject_duplicates) empty.2 ∙ e) (subst IsDirect (sym empty.2) direct) (subst IsReady (sym empty.2) (empty_ready old empty.0 ready)) in
       some_empty rd b old looked new y empty got
-  run_reads rd a old new x (sequence_run {a = b} {first = first} {xs = xs} begins h) e plain ready =
-      let got = items_read rd b first new xs h (ap (λ r. r.reject_duplicates) begins.0.keeps.0 ∙ e) (ap (λ x. x.in_order) begins.0.keeps.1 ∙ plain) in (
+  run_reads rd a old new x (sequence_run {a = b} {first = first} {xs = xs} begins h) e direct ready =
+      let got = items_read rd b first new xs h (ap (λ r. r.reject_duplicates) begins.0.keeps.0 ∙ e) (on old first begins.0.keeps direct) in (
         ap (λ o. option_map (λ ds. d.sequence (d.values_of ds)) (option_and_then (read_each (reads rd b)) o)) (begun_items old first ready begins.0 begins.1)
             ∙ ap (option_map (λ ds. d.sequence (d.values_of ds))) got.0,
         map_level old first new k.Items ready begins.0 got.1.0 got.1.1 got.1.2 got.1.3,
       )
-  run_reads rd a old new x (tuple_run {parts = parts} {first = first} {xs = xs} begins h) e plain ready =
-      let got = parts_read rd parts first new xs h (ap (λ r. r.reject_duplicates) begins.0.keeps.0 ∙ e) (ap (λ x. x.in_order) begins.0.keeps.1 ∙ plain) in (
+  run_reads rd a old new x (tuple_run {parts = parts} {first = first} {xs = xs} begins h) e direct ready =
+      let got = parts_read rd parts first new xs h (ap (λ r. r.reject_duplicates) begins.0.keeps.0 ∙ e) (on old first begins.0.keeps direct) in (
         ap (λ o. option_map (λ ds. d.tuple (d.values_of ds)) (option_and_then (reads_tuple rd parts) o)) (begun_items old first ready begins.0 begins.1)
             ∙ ap (option_map (λ ds. d.tuple (d.values_of ds))) got.0,
         map_level old first new k.Items ready begins.0 got.1.0 got.1.1 got.1.2 got.1.3,
       )
-  run_reads rd a old new x (struct_run {unknown = unknown} {names = names} {fs = fs} {first = first} {ms = ms} {named = ns} begins kind held named differ h all) e plain ready =
-      let node : IsOfStruct (tree_of old.node.now) = of_struct old.part (tree_of old.node.now) held kind in
+  run_reads rd a old new x (struct_run {unknown = unknown} {names = names} {fs = fs} {first = first} {ms = ms} {named = ns} begins kind named differ h all) e direct ready =
+      let node : IsOfStruct (tree_of old.node.now) = of_struct old.part old.search.doubts.is_short (tree_of old.node.now) ready.whole kind in
       let es = entries_in (tree_of old.node.now) in
       let map : OfMap first es = ap (λ (v : Bor ParsedValue). pairs_in (tree_of v.now)) begins.top ∙ pairs_of_struct (tree_of old.node.now) node in
-      let got = members_read rd unknown names fs first new ms es h named differ (subst IsSome (sym begins.frame) refl) map (ap (λ r. r.reject_duplicates) begins.keeps.0 ∙ e) (ap (λ x. x.in_order) begins.keeps.1 ∙ plain) in
+      let got = members_read rd unknown names fs first new ms es h named differ (subst IsSome (sym begins.frame) refl) map (ap (λ r. r.reject_duplicates) begins.keeps.0 ∙ e) (on old first begins.keeps direct) in
       let fields = subst (λ m. FieldsRead rd unknown fs (after m es) ms) (ap passed begins.frame) got.0 in (
         ap (option_map (λ ms. d.struct (d.members_of ms))) (struct_here (keys_are_allowed unknown fs) (reads_names rd fs) (reads_places rd fs) ns old.part (tree_of old.node.now) (tree_of old.top.now) (count_of old - 1)
-            ready.part held kind (struct_fields rd unknown fs es ms ns fields all) (utf8_more _ _ fields.1 fields.2)),
+            ready.part ready.whole (some_node old.part (tree_of old.node.now) old.search.doubts.is_short kind) node (struct_fields rd unknown fs es ms ns fields all) (utf8_more _ _ fields.1 fields.2)),
         map_level old first new k.Fields ready begins got.1.0 got.1.1 got.1.2 got.1.3,
       )
-  run_reads rd a old new x (mapping_run {key = key} {a = b} {first = first} {ps = ps} begins h) e plain ready =
+  run_reads rd a old new x (mapping_run {key = key} {a = b} {first = first} {ps = ps} begins h) e direct ready =
       let es = map_entries (tree_of old.node.now) in
       let map : OfMap first es = ap (λ (v : Bor ParsedValue). pairs_in (tree_of v.now)) begins.0.top ∙ pairs_of_map (tree_of old.node.now) begins.1 in
-      let got = pairs_read rd key b first new ps es h (subst IsSome (sym begins.0.frame) refl) map (ap (λ r. r.reject_duplicates) begins.0.keeps.0 ∙ e) (ap (λ x. x.in_order) begins.0.keeps.1 ∙ plain) in (
+      let got = pairs_read rd key b first new ps es h (subst IsSome (sym begins.0.frame) refl) map (ap (λ r. r.reject_duplicates) begins.0.keeps.0 ∙ e) (on old first begins.0.keeps direct) in (
         ap (option_map (λ ps. d.mapping (d.pairs_of ps)))
-            (map_here key (reads rd b) old.part (tree_of old.node.now) (tree_of old.top.now) (count_of old - 1) ready.part begins.1 begins.2
+            (map_here key (reads rd b) old.part (tree_of old.node.now) (tree_of old.top.now) (count_of old - 1) ready.part ready.whole begins.1 begins.2
             ∙ sym (ap (λ f. read_pairs key (reads rd b) (after (passed f) es)) begins.0.frame) ∙ got.0),
         map_level old first new k.Map ready begins.0 got.1.0 got.1.1 got.1.2 got.1.3,
       )
 
   pairs_read : (rd : Bool) (key : s.KeyShape) (a : s.Shape) (old new : TreeFormat) (ps : List (d.Data × d.Data)) (es : Entries) → PairsRun key a old ps new → IsSome old.frame → OfMap old es
-      → old.reader.reject_duplicates ≡ rd → IsPlain old → (read_pairs key (reads rd a) (after (count_of old) es) ≡ Some ps) × IsLeft old new
-  pairs_read rd key a old new ps es (no_pair none leaves) open_ map e plain =
+      → old.reader.reject_duplicates ≡ rd → IsDirect old → (read_pairs key (reads rd a) (after (count_of old) es) ≡ Some ps) × IsLeft old new
+  pairs_read rd key a old new ps es (no_pair none leaves) open_ map e direct =
       (ap (read_pairs key (reads rd a)) (after_none (count_of old) es (due old es map ∙ no_entry_due old open_ none)), left old new leaves)
-  pairs_read rd key a old new ps es (one_pair {come = come} {next = next} {read = read} {k = k} {x = x} {ps = rest} comes part h value more) open_ map e plain =
+  pairs_read rd key a old new ps es (one_pair {come = come} {next = next} {read = read} {k = k} {x = x} {ps = rest} comes part h value more) open_ map e direct =
       let duplicates = ap (λ r. r.reject_duplicates) comes.moves.keeps.0 ∙ e in
-      let ordered = ap (λ x. x.in_order) comes.moves.keeps.1 ∙ plain in
-      let mid = key_next key come k next h part in
-      let got = run_reads rd a next read x value (ap (λ r. r.reject_duplicates) mid.2.reader ∙ duplicates) (mid.2.plain ∙ ordered) (value_ready old come next comes.moves mid) in
+      let ordered = on old come comes.moves.keeps direct in
+      let mid = key_next key come k next h part ordered.1 in
+      let now = mid.2.direct ordered in
+      let got = run_reads rd a next read x value (ap (λ r. r.reject_duplicates) mid.2.reader ∙ duplicates) now (value_ready old come next comes.moves mid now.1) in
       let then = after_item old come read comes.moves (levels come next read mid.2 got.1) in
-      let others = pairs_read rd key a read new rest es more then.begun (of_map_after old read es then map) (ap (λ r. r.reject_duplicates) then.reader ∙ e) (then.plain ∙ plain) in (
+      let others = pairs_read rd key a read new rest es more then.begun (of_map_after old read es then map) (ap (λ r. r.reject_duplicates) then.reader ∙ e) (then.direct direct) in (
         pair_more rd key (reads rd a) es (count_of old) come k x rest (entry_due old) (due old es map) (key_at old come comes.moves part) comes.entry.1
-            (λ t is. key_read rd key come k next t h duplicates ordered is) (ap (reads rd a) (sym (value_tree come next mid)) ∙ got.0) (after_read key (reads rd a) rest old read es then others.0),
+            (λ t is. key_read rd key come k next t h duplicates ordered.0 part is) (ap (reads rd a) (sym (value_tree come next mid)) ∙ got.0) (after_read key (reads rd a) rest old read es then others.0),
         left_after old read new then others.1,
       )
 
-  items_read : (rd : Bool) (a : s.Shape) (old new : TreeFormat) (xs : List d.Data) → ItemsRun a old xs new → old.reader.reject_duplicates ≡ rd → IsPlain old → (read_each (reads rd a) (rest_of old) ≡ Some xs) × IsLeft old new
-  items_read rd a old new xs (no_item none leaves) e plain = (ap (read_each (reads rd a)) (first_end (rest_of old) none), left old new leaves)
-  items_read rd a old new xs (one_item {come = come} {read = read} {x = y} {xs = ys} comes h rest) e plain =
-      let got = item_got rd a old come read y comes (run_reads rd a come read y h (ap (λ r. r.reject_duplicates) comes.moves.keeps.0 ∙ e) (ap (λ x. x.in_order) comes.moves.keeps.1 ∙ plain) (come_ready old come comes.part comes.moves)) in
-      let more = items_read rd a read new ys rest (ap (λ r. r.reject_duplicates) got.1.reader ∙ e) (got.1.plain ∙ plain) in (
+  items_read : (rd : Bool) (a : s.Shape) (old new : TreeFormat) (xs : List d.Data) → ItemsRun a old xs new → old.reader.reject_duplicates ≡ rd → IsDirect old → (read_each (reads rd a) (rest_of old) ≡ Some xs) × IsLeft old new
+  items_read rd a old new xs (no_item none leaves) e direct = (ap (read_each (reads rd a)) (first_end (rest_of old) none), left old new leaves)
+  items_read rd a old new xs (one_item {come = come} {read = read} {x = y} {xs = ys} comes h rest) e direct =
+      let now = on old come comes.moves.keeps direct in
+      let got = item_got rd a old come read y comes direct.1 (run_reads rd a come read y h (ap (λ r. r.reject_duplicates) comes.moves.keeps.0 ∙ e) now (come_ready old come (first_part old.is_tried come.part direct.1 comes.part) now.1 comes.moves)) in
+      let more = items_read rd a read new ys rest (ap (λ r. r.reject_duplicates) got.1.reader ∙ e) (got.1.direct direct) in (
         ap (read_each (reads rd a)) (one_more old come read comes got.1)
             ∙ ap (λ o. option_and_then (λ z. with_front z (read_each (reads rd a) (rest_of read))) o) got.0
             ∙ ap (λ o. with_front y o) more.0,
         left_after old read new got.1 more.1,
       )
 
-  parts_read : (rd : Bool) (parts : s.Shapes) (old new : TreeFormat) (xs : List d.Data) → PartsRun parts old xs new → old.reader.reject_duplicates ≡ rd → IsPlain old → (reads_tuple rd parts (rest_of old) ≡ Some xs) × IsLeft old new
-  parts_read rd parts old new xs (no_part leaves) e plain = (refl, left old new leaves)
-  parts_read rd parts old new xs (one_part {a = a} {parts = bs} {come = come} {read = read} {x = y} {xs = ys} comes h rest) e plain =
-      let got = item_got rd a old come read y comes (run_reads rd a come read y h (ap (λ r. r.reject_duplicates) comes.moves.keeps.0 ∙ e) (ap (λ x. x.in_order) comes.moves.keeps.1 ∙ plain) (come_ready old come comes.part comes.moves)) in
-      let more = parts_read rd bs read new ys rest (ap (λ r. r.reject_duplicates) got.1.reader ∙ e) (got.1.plain ∙ plain) in (
+  parts_read : (rd : Bool) (parts : s.Shapes) (old new : TreeFormat) (xs : List d.Data) → PartsRun parts old xs new → old.reader.reject_duplicates ≡ rd → IsDirect old → (reads_tuple rd parts (rest_of old) ≡ Some xs) × IsLeft old new
+  parts_read rd parts old new xs (no_part leaves) e direct = (refl, left old new leaves)
+  parts_read rd parts old new xs (one_part {a = a} {parts = bs} {come = come} {read = read} {x = y} {xs = ys} comes h rest) e direct =
+      let now = on old come comes.moves.keeps direct in
+      let got = item_got rd a old come read y comes direct.1 (run_reads rd a come read y h (ap (λ r. r.reject_duplicates) comes.moves.keeps.0 ∙ e) now (come_ready old come (first_part old.is_tried come.part direct.1 comes.part) now.1 comes.moves)) in
+      let more = parts_read rd bs read new ys rest (ap (λ r. r.reject_duplicates) got.1.reader ∙ e) (got.1.direct direct) in (
         ap (reads_tuple rd (s.one_shape a bs)) (one_more old come read comes got.1)
             ∙ ap (λ o. option_and_then (λ z. with_front z (reads_tuple rd bs (rest_of read))) o) got.0
             ∙ ap (λ o. with_front y o) more.0,
@@ -123,24 +137,26 @@ mutual
       )
 
   members_read : (rd : Bool) (unknown : s.UnknownKeys) (names : List Name) (fs : s.Fields) (old new : TreeFormat) (ms : List (ℕ × d.Data)) (es : Entries) → MembersRun unknown names fs old ms new → AreNamed names fs → s.field_names_differ fs ≡ true → IsSome old.frame
-      → OfMap old es → old.reader.reject_duplicates ≡ rd → IsPlain old → FieldsRead rd unknown fs (after (count_of old) es) ms × IsLeft old new
-  members_read rd unknown names fs old new ms es (no_member none leaves) named differ open_ map e plain =
+      → OfMap old es → old.reader.reject_duplicates ≡ rd → IsDirect old → FieldsRead rd unknown fs (after (count_of old) es) ms × IsLeft old new
+  members_read rd unknown names fs old new ms es (no_member none leaves) named differ open_ map e direct =
       (no_fields_read rd unknown fs (after (count_of old) es) (after_none (count_of old) es (due old es map ∙ no_entry_due old open_ none)), left old new leaves)
-  members_read rd unknown names fs old new ms es (one_member {come = come} {read = read} {at = at} {f = f} {x = x} {ms = rest} comes here h more) named differ open_ map e plain =
-      let got = run_reads rd f.1 come read x h (ap (λ r. r.reject_duplicates) comes.moves.keeps.0 ∙ e) (ap (λ x. x.in_order) comes.moves.keeps.1 ∙ plain) (come_ready old come comes.part comes.moves) in
+  members_read rd unknown names fs old new ms es (one_member {come = come} {read = read} {at = at} {f = f} {x = x} {ms = rest} comes here h more) named differ open_ map e direct =
+      let now = on old come comes.moves.keeps direct in
+      let first = first_part old.is_tried come.part direct.1 comes.part in
+      let got = run_reads rd f.1 come read x h (ap (λ r. r.reject_duplicates) comes.moves.keeps.0 ∙ e) now (come_ready old come first now.1 comes.moves) in
       let then = after_item old come read comes.moves got.1 in
-      let others = members_read rd unknown names fs read new rest es more named differ then.begun (of_map_after old read es then map) (ap (λ r. r.reject_duplicates) then.reader ∙ e) (then.plain ∙ plain) in (
+      let others = members_read rd unknown names fs read new rest es more named differ then.begun (of_map_after old read es then map) (ap (λ r. r.reject_duplicates) then.reader ∙ e) (then.direct direct) in (
         field_more rd unknown names fs named differ es (count_of old) at (tree_of come.node.now) (entry_due old) (due old es map) comes.key comes.value rest (rest_fields rd unknown fs old read es rest then others.0) f x here
-            (ap (reads rd f.1) (sym (come_tree come comes.part)) ∙ got.0),
+            (ap (reads rd f.1) (sym (come_tree come first)) ∙ got.0),
         left_after old read new then others.1,
       )
-  members_read rd unknown names fs old new ms es (other_member {come = come} {read = read} {at = at} ignored comes past takes more) named differ open_ map e plain =
-      let then = after_item old come read comes.moves (subst (λ f. IsLevel come f) (sym takes) (taken come _ refl refl refl refl refl)) in
-      let others = members_read rd unknown names fs read new ms es more named differ then.begun (of_map_after old read es then map) (ap (λ r. r.reject_duplicates) then.reader ∙ e) (then.plain ∙ plain) in (
+  members_read rd unknown names fs old new ms es (other_member {come = come} {read = read} {at = at} ignored comes past takes more) named differ open_ map e direct =
+      let then = after_item old come read comes.moves (subst (λ f. IsLevel come f) (sym takes) (taken come _ refl refl refl refl (λ d. d))) in
+      let others = members_read rd unknown names fs read new ms es more named differ then.begun (of_map_after old read es then map) (ap (λ r. r.reject_duplicates) then.reader ∙ e) (then.direct direct) in (
         other_more rd unknown names fs named differ es (count_of old) at (tree_of come.node.now) (entry_due old) (due old es map) comes.key comes.value ms (rest_fields rd unknown fs old read es ms then others.0) ignored past,
         left_after old read new then others.1,
       )
 
 -- the law
 pub exact_run : (a : s.Shape) (old new : TreeFormat) (x : d.Data) → Run a old x new → IsPlain old → IsReady old → reads old.reader.reject_duplicates a (tree_at old) ≡ Some x
-exact_run a old new x h plain ready = (run_reads old.reader.reject_duplicates a old new x h refl plain ready).0
+exact_run a old new x h plain ready = (run_reads old.reader.reject_duplicates a old new x h refl (plain, ready.tried) ready).0

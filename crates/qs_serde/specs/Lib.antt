@@ -2,6 +2,7 @@
 pub mod Nodes
 pub mod Lookups
 pub mod Places
+pub mod Tries
 pub mod Errors
 pub mod Steps
 pub mod Runs

@@ -1,15 +1,15 @@
 -- Where a format is in its tree: the node that the open lists and maps lead to, and what the next step reads.
-use Rattle.std.specs.Prelude.{◌≡◌, ℕ, zero, suc, ◌-◌, List, [], ◌∷◌, ◌++◌, drop, slice_get, Option, Some, None, option_map, option_to_list}
+use Rattle.std.specs.Prelude.{◌≡◌, Bool, true, false, cond, ℕ, zero, suc, ◌-◌, List, [], ◌∷◌, ◌++◌, drop, slice_get, Option, Some, None, option_map, option_to_list}
 use Rattle.std.specs.Borrow.{Bor}
 use Rattle.qs_spec.specs.Leaf.Leaf.{NoValue}
 use Rattle.qs_spec.specs.Segment.{ParsedSegment}
 use Rattle.qs_spec.specs.Tree.{Tree}
-use Rattle.qs_spec.specs.Tree.Tree.{leaf, sequence, mapping}
+use Rattle.qs_spec.specs.Tree.Tree.{leaf, sequence, mapping, uninitialized}
 use Rattle.qs_spec.specs.Node.{sequence_items}
 use Rattle.qs_tree.specs.declared.tree.value.ParsedValue.{ParsedValue}
 use Rattle.qs_tree.specs.tree.Views.{tree_of, entry_list}
 use Rattle.qs_data.specs.read.Items.{first_item}
-use Rattle.qs_serde.specs.Nodes.{key_tree, pairs_in}
+use Rattle.qs_serde.specs.Nodes.{key_tree, pairs_in, whole_text}
 use Rattle.qs_serde.specs.declared.reading.node.Part.{Part}
 use Rattle.qs_serde.specs.declared.reading.node.Part.TheVariants as p
 use Rattle.qs_serde.specs.declared.reading.frame.Frame.{Frame}
@@ -76,10 +76,46 @@ part_tree p.Value node top at = node
 part_tree p.Held node top at = node
 part_tree p.NoValue node top at = leaf NoValue
 part_tree p.Key node top at = key_tree (slice_get (pairs_in top) at)
+part_tree p.Whole node top at = node
+part_tree p.Nothing node top at = leaf NoValue
 
 abbrev pub part_view : TreeFormat → Part → Tree
 part_view f part = part_tree part (tree_of f.node.now) (tree_of f.top.now) (count_of f - 1)
 
--- what the next step reads
+-- what is next
 abbrev pub tree_at : TreeFormat → Tree
 tree_at f = part_view f f.part
+
+-- the same as a scalar reads it
+abbrev pub scalar_of : Part → Tree → Tree
+scalar_of p.Value t = t
+scalar_of p.Held t = t
+scalar_of p.NoValue t = t
+scalar_of p.Key t = t
+scalar_of p.Whole t = whole_text t
+scalar_of p.Nothing t = uninitialized
+
+abbrev pub scalar_at : TreeFormat → Tree
+scalar_at f = scalar_of f.part (tree_at f)
+
+-- the part that is read first of a node, and of a node under a variant's name; whether it is for a variant of an untagged enum
+abbrev pub value_part : Bool → Part
+value_part is_tried = cond is_tried p.Whole p.Value
+
+abbrev pub held_part : Bool → Part
+held_part is_tried = cond is_tried p.Whole p.Held
+
+-- whether a part is for such a variant
+abbrev pub is_tried_part : Part → Bool
+is_tried_part p.Whole = true
+is_tried_part p.Nothing = true
+is_tried_part _ = false
+
+-- a part, for such a variant
+abbrev pub whole_part : Part → Part
+whole_part p.Value = p.Whole
+whole_part p.Held = p.Whole
+whole_part p.NoValue = p.Nothing
+whole_part p.Key = p.Key
+whole_part p.Whole = p.Whole
+whole_part p.Nothing = p.Nothing

@@ -11,23 +11,30 @@ use Rattle.qs_spec.specs.Data as d
 use Rattle.qs_spec.specs.Shape as s
 use Rattle.qs_tree.specs.tree.Views.{tree_of}
 use Rattle.serde.specs.Event as e
-use Rattle.qs_serde.specs.Places.{count_of, opens, tree_at}
-use Rattle.qs_serde.specs.Steps.{Begins, BeginsMap, Comes, EntryComes, EntryIs, HasNoEntry, HasNoItem, Leaves, LooksInside, Reads, Takes, is_held, next_struct}
+use Rattle.qs_serde.specs.Places.{count_of, is_tried_part, opens, tree_at, value_part}
+use Rattle.qs_serde.specs.Steps.{Begins, BeginsMap, Comes, EntryComes, EntryIs, HasNoEntry, HasNoItem, IsPlain, Leaves, LooksInside, Reads, Takes, next_struct}
 use Rattle.qs_serde.specs.declared.reading.node.Node.{Node}
 use Rattle.qs_serde.specs.declared.reading.node.Part.TheVariants as p
 use Rattle.qs_serde.specs.declared.reading.format.TreeFormat.{TreeFormat}
 
--- A value may be read: no value is next only in place of an empty one, and nothing is open around what is not open.
+-- A value may be read: no value is next only in place of an empty one, nothing is open around what is not open, and no variant of an untagged enum
+-- is tried.
 pub record IsReady (f : TreeFormat) : Type 0 where
   pub part : f.part ≡ p.NoValue → tree_of f.node.now ≡ leaf Null
+  pub whole : is_tried_part f.part ≡ false
+  pub tried : f.is_tried ≡ false
   pub outer : IsSome f.frame ⊎ (f.around.items ≡ [])
+
+-- The tree is read as it is, and for no variant of an untagged enum.
+abbrev pub IsDirect : TreeFormat → Type 0
+IsDirect f = IsPlain f × (f.is_tried ≡ false)
 
 -- A value was read: the open lists and maps are those before it, gone over as far.
 pub record IsLevel (old new : TreeFormat) : Type 0 where
   pub opened : opens new ≡ opens old
   pub open_as : IsSome new.frame ↔ IsSome old.frame
   pub reader : new.reader ≡ old.reader
-  pub plain : new.search.in_order ≡ old.search.in_order
+  pub direct : IsDirect old → IsDirect new
 
 -- the names of a derived struct are those of the fields, without aliases
 abbrev pub AreNamed : List Name → s.Fields → Type 0
@@ -77,7 +84,7 @@ mutual
     tuple_run : {parts : s.Shapes} {old first new : TreeFormat} {xs : List d.Data} → Reads old (e.seq_begins None) first → PartsRun parts first xs new → Run (s.Shape.tuple parts) old (d.tuple (d.values_of xs)) new
     mapping_run : {key : s.KeyShape} {a : s.Shape} {old first new : TreeFormat} {ps : List (d.Data × d.Data)} → BeginsMap old first → PairsRun key a first ps new → Run (s.Shape.mapping key a) old (d.mapping (d.pairs_of ps)) new
     struct_run : {unknown : s.UnknownKeys} {names : List Name} {fs : s.Fields} {old first new : TreeFormat} {ms : List (ℕ × d.Data)} {named : List d.Named}
-        → Begins old k.Fields first → next_struct old ≡ Some k.Fields → is_held old.part ≡ false → AreNamed names fs → s.field_names_differ fs ≡ true → MembersRun unknown names fs first ms new
+        → Begins old k.Fields first → next_struct old ≡ Some k.Fields → AreNamed names fs → s.field_names_differ fs ≡ true → MembersRun unknown names fs first ms new
         → collected 0 fs ms ≡ Some named → Run (s.Shape.struct unknown fs) old (d.struct (d.members_of named)) new
 
   -- each item comes and is read, until none is left
@@ -100,7 +107,7 @@ mutual
   pub data MembersRun : s.UnknownKeys → List Name → s.Fields → TreeFormat → List (ℕ × d.Data) → TreeFormat → Type 0 where
     no_member : {unknown : s.UnknownKeys} {names : List Name} {fs : s.Fields} {old new : TreeFormat} → HasNoEntry old → Leaves old new → MembersRun unknown names fs old [] new
     one_member : {unknown : s.UnknownKeys} {names : List Name} {fs : s.Fields} {old come read new : TreeFormat} {at : ℕ} {f : s.Field} {x : d.Data} {ms : List (ℕ × d.Data)}
-        → EntryIs (count_of old) names at p.Value old come → field_at fs at ≡ Some f → Run f.1 come x read → MembersRun unknown names fs read ms new
+        → EntryIs (count_of old) names at (value_part old.is_tried) old come → field_at fs at ≡ Some f → Run f.1 come x read → MembersRun unknown names fs read ms new
         → MembersRun unknown names fs old ((at, x) ∷ ms) new
     other_member : {unknown : s.UnknownKeys} {names : List Name} {fs : s.Fields} {old come read new : TreeFormat} {at : ℕ} {ms : List (ℕ × d.Data)}
-        → s.are_ignored unknown ≡ true → EntryIs (count_of old) names at p.Value old come → length names ≤ at → Takes come read → MembersRun unknown names fs read ms new → MembersRun unknown names fs old ms new
+        → s.are_ignored unknown ≡ true → EntryIs (count_of old) names at (value_part old.is_tried) old come → length names ≤ at → Takes come read → MembersRun unknown names fs read ms new → MembersRun unknown names fs old ms new

@@ -1,6 +1,9 @@
-//! Enums by a tag, by a tag and a content, and without a name.
+//! Enums by a tag, by a tag and a content, without a name, and with variants that hold structs and maps.
 
+use super::named::Shown;
+use super::plain::Sort;
 use serde::{Deserialize, Serialize};
+use std::collections::BTreeMap;
 
 #[derive(Drop, Serialize, Deserialize)]
 #[serde(tag = "type", rename_all = "lowercase")]
@@ -19,13 +22,29 @@ pub enum Tagged {
 }
 
 #[derive(Drop, Serialize, Deserialize)]
+#[serde(tag = "kind", rename_all = "camelCase")]
+pub enum Spot {
+    Anywhere,
+    #[serde(rename_all = "camelCase")]
+    OnMap {
+        map_name: String,
+        zoom: Option<String>,
+    },
+}
+
+#[derive(Drop, Serialize, Deserialize)]
 #[serde(tag = "t", content = "c")]
 pub enum Adjacent {
     Nothing,
     One(u8),
     Pair(String, u8),
     Named { a: u8, b: String },
+    Size { width: Option<u8> },
+    Held(Shown),
 }
+
+#[derive(Drop, Serialize, Deserialize)]
+pub struct Wrapped(Adjacent);
 
 #[derive(Drop, Serialize, Deserialize)]
 #[serde(untagged)]
@@ -34,4 +53,24 @@ pub enum Either {
     Pair { x: String, y: String },
     List(Vec<String>),
     Text(String),
+}
+
+#[derive(Drop, Serialize, Deserialize)]
+#[serde(untagged)]
+pub enum Choice {
+    Two(String, String),
+    Flag(bool),
+    Shown(Shown),
+    Sort(Sort),
+    Many(Vec<String>),
+    Map(BTreeMap<String, String>),
+    Text(String),
+}
+
+#[derive(Drop, Serialize, Deserialize)]
+pub enum Contact {
+    Nobody,
+    Shown(Shown),
+    Phone { number: Option<String> },
+    Map(BTreeMap<String, u8>),
 }

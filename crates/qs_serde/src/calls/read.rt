@@ -5,7 +5,7 @@
 ghost use Rattle.qs_spec.specs.Config.{default};
 ghost use Rattle.qs_serde.specs.Inputs.{ExplainsFrom, ReturnsFrom};
 
-use crate::reading::{PathError, TreeFormat, explained, read_tree};
+use crate::reading::{PathError, TreeFormat, read_again, read_tree};
 use qs_tree::{Config, Error, Result, parse};
 use serde::Deserialize;
 use std::alloc::Global;
@@ -101,7 +101,7 @@ pub fn explain_bytes<'de, T: Deserialize<'de>>(
     let mut format = TreeFormat::new(alloc, config, &tree);
     match read_tree(alloc, input, &mut format) {
         Ok(value) => Ok(value),
-        Err(error) => Err(explained::<T>(alloc, config, input, &tree, error)),
+        Err(error) => read_again(alloc, config, input, &tree, format.doubts, error),
     }
 }
 
@@ -121,6 +121,9 @@ pub fn from_bytes_with<'de, T: Deserialize<'de>>(
     let mut format = TreeFormat::new(alloc, config, &tree);
     match read_tree(alloc, input, &mut format) {
         Ok(value) => Ok(value),
-        Err(error) => Err(explained::<T>(alloc, config, input, &tree, error).error),
+        Err(error) => match read_again(alloc, config, input, &tree, format.doubts, error) {
+            Ok(value) => Ok(value),
+            Err(error) => Err(error.error),
+        },
     }
 }

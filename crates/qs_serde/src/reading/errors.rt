@@ -14,7 +14,7 @@ ghost use Rattle.qs_serde.specs.Errors.{IsStepError};
 ghost use Rattle.qs_serde.specs.Nodes.{node_tree};
 
 use super::format::{Asked, TreeFormat};
-use super::node::{Node, Part, entries_in};
+use super::node::{Node, Part, entries_in, entry_at};
 use itoa::Buffer;
 use qs_data::{ReadError, Shape, Width};
 use qs_tree::{Error, Key, ParsedValue};
@@ -47,7 +47,10 @@ impl<'t, 'qs> TreeFormat<'t, 'qs> {
         ensures { IsStepError (is_text (node_tree node.entry)) result }
     {
         match self.read_key(node, &Shape::Text) {
-            Ok(_) => self.saying("invalid type: string, expected a borrowed string"),
+            Ok(_) => self.hinted(
+                node,
+                self.saying("invalid type: string, expected a borrowed string"),
+            ),
             Err(error) => error,
         }
     }
@@ -57,15 +60,20 @@ impl<'t, 'qs> TreeFormat<'t, 'qs> {
     #[inline(never)]
     pub(crate) fn unfit(&self) -> ReadError {
         match self.asked {
-            Asked::Unit | Asked::Key => self.unfit_as(self.part, &Shape::Unit),
+            Asked::Unit | Asked::Key | Asked::Content | Asked::Kind | Asked::Ended => {
+                self.unfit_as(self.part, &Shape::Unit)
+            }
             Asked::Unsigned(part) => self.unfit_as(part, &unsigned_shape(self.search.width)),
             Asked::Signed(part) => self.unfit_as(part, &signed_shape(self.search.width)),
             Asked::Enum => self.error(self.reader.not_an_enum(self.node)),
             Asked::Variant => {
                 self.saying("invalid type: unit variant, expected a variant that holds a value")
             }
+            Asked::Lacking => self.no_content(),
             Asked::Tried => self.saying("data did not match any variant of untagged enum"),
-            Asked::Nothing => self.no_value(),
+            Asked::Entry | Asked::Marked(_) | Asked::MarkedTwice(_) | Asked::Nothing => {
+                self.no_value()
+            }
         }
     }
 
@@ -122,7 +130,37 @@ impl<'t, 'qs> TreeFormat<'t, 'qs> {
                 self.unnamed_variant(buffer.format(*number).as_bytes())
             }
             Node::EmptyKey | Node::NoValue => self.unnamed_variant(&[]),
+            Node::Nothing => self.no_value(),
         }
+    }
+
+    /// Returns the error of a variant that isn't known, or is known under a tag.
+    #[cold]
+    #[inline(never)]
+    pub(crate) fn no_tag(&self) -> ReadError {
+        match self.tag() {
+            Some(tag) => self.no_variant(Node::Value(tag)),
+            None => self.saying("unknown variant"),
+        }
+    }
+
+    // Returns the text that names no variant, if it is in the innermost map or in the current node.
+    fn tag(&self) -> Option<&'t ParsedValue<'qs>> {
+        let place = self.clues.variant?;
+        let map = if self.depth() < place.depth {
+            self.node
+        } else {
+            self.top
+        };
+        let (_, tag) = entry_at(map, place.at)?;
+        Some(tag)
+    }
+
+    /// Returns the error of a list that ended too early, or goes on.
+    pub(crate) fn wrong_length(&self) -> ReadError
+        ensures { ReadIsCustom result }
+    {
+        self.error(self.reader.missing_item(self.count))
     }
 
     // Returns the error of a text that names no variant.
@@ -141,6 +179,18 @@ impl<'t, 'qs> TreeFormat<'t, 'qs> {
         match entries_in(map).test() {
             Ok(()) => self.no_value(),
             Err(key) => self.error(key.into_error(self.reader.alloc)),
+        }
+    }
+
+    /// Returns the error of a key of this map that isn't UTF-8 and should name a variant. It has no hint.
+    #[cold]
+    #[inline(never)]
+    pub(crate) fn broken_variant(&self, map: &ParsedValue<'_>, key: Node<'t, 'qs>) -> ReadError
+        ensures { IsStepError (is_text (tree_of map.now)) result }
+    {
+        match entries_in(map).test() {
+            Ok(()) => self.no_value(),
+            Err(_) => self.no_variant(key),
         }
     }
 

@@ -1,37 +1,45 @@
 //! The error that comes first, and its path: the tree is read again, with fields in their own order.
 
+ghost use Rattle.std.specs.Prelude.{IfErr};
 ghost use Rattle.qs_data.specs.read.Errors.{IsOfReading};
 
-use super::format::{Asked, Search, TreeFormat, read_tree};
+use super::format::{Asked, Doubts, Search, TreeFormat, read_tree};
 use super::path_error::PathError;
 use super::{ReadError, Result};
 use qs_data::Width;
 use qs_tree::{Config, ParsedValue};
 use serde::Deserialize;
-use std::alloc::Global;
+use std::alloc::{AllocError, Global};
 
-/// Returns why a tree isn't read, after a read that failed with this error.
+/// Reads a tree again, after a read that failed with this error. It returns the value if the first read assumed wrongly, or else the error
+/// that comes first, with its path.
 #[cold]
 #[inline(never)]
-pub(crate) fn explained<'de, T: Deserialize<'de>>(
+pub(crate) fn read_again<'de, T: Deserialize<'de>>(
     alloc: Global,
     config: Config,
     input: &'de [u8],
     tree: &ParsedValue<'_>,
+    doubts: Doubts,
     error: ReadError,
-) -> PathError
-    ensures { IsOfReading result.error }
+) -> Result<T, PathError>
+    ensures { IfErr result (λ e. IsOfReading e.error) }
 {
     let path = String::new(alloc);
     if matches!(error, ReadError::OutOfMemory) {
-        return PathError::new(path, error);
+        return Err(PathError::new(path, error));
     }
     let mut format = TreeFormat::new(alloc, config, tree);
-    format.search.in_order = true;
+    format.search = Search {
+        in_order: true,
+        doubts,
+        ..format.search
+    };
     let read: Result<T> = read_tree(alloc, input, &mut format);
     match read {
-        Ok(_) => PathError::new(path, error),
-        Err(error) => located::<T>(alloc, config, input, tree, &format, error),
+        Ok(value) if doubts.is_any() => Ok(value),
+        Ok(_) => Err(PathError::new(path, error)),
+        Err(error) => Err(located::<T>(alloc, config, input, tree, &format, error)),
     }
 }
 
@@ -46,7 +54,7 @@ fn located<'de, T: Deserialize<'de>>(
 ) -> PathError
     ensures { IsOfReading result.error }
 {
-    let Ok(path) = format.path() else {
+    let Ok(path) = path_of(format, &error) else {
         return PathError::new(String::new(alloc), ReadError::OutOfMemory);
     };
     if !matches!(format.asked, Asked::Unsigned(_) | Asked::Signed(_)) {
@@ -63,6 +71,19 @@ fn located<'de, T: Deserialize<'de>>(
         }
     }
     PathError::new(path, error)
+}
+
+// Returns the path to where the format is; or to the text that names no variant, or to the variant that holds a value, if this is its error.
+fn path_of(format: &TreeFormat<'_, '_>, error: &ReadError) -> Result<String, AllocError> {
+    if let Asked::Variant = format.asked {
+        if have_one_text(error, &format.unfit()) {
+            return format.path_to_variant();
+        }
+    }
+    match format.clues.variant {
+        Some(place) if have_one_text(error, &format.no_tag()) => format.path_to(place),
+        _ => format.path(),
+    }
 }
 
 // Reads the tree with a number given as one that this width doesn't hold. If the read fails at that number, the number is of this width:

@@ -6,10 +6,11 @@ ghost use Rattle.qs_tree.specs.tree.Views.{tree_of};
 ghost use Rattle.qs_data.specs.declared.read.error.ReadError.TheVariants.{OutOfMemory};
 ghost use Rattle.qs_data.specs.read.internal.ReadError.{ReadGives};
 ghost use Rattle.qs_serde.specs.Nodes.{key_tree, node_tree, pairs_in};
-ghost use Rattle.qs_serde.specs.Places.{IsAt, child_at, count_of, kind_of, part_view, tree_at};
-ghost use Rattle.qs_serde.specs.Steps.{Begins, IsPlain, Leaves, Moves, Takes, next_node};
+ghost use Rattle.qs_serde.specs.Places.{IsAt, child_at, count_of, kind_of, part_view, scalar_at, scalar_of, tree_at, value_part};
+ghost use Rattle.qs_serde.specs.Steps.{Begins, IsPlain, Leaves, Moves, Takes, field_of, next_node};
 
 use super::Result;
+use super::clues::Clues;
 use super::frame::{Frame, FrameKind, Outer};
 use super::node::{Node, Part, entry_at};
 use qs_data::{Reader, Width};
@@ -39,10 +40,14 @@ pub struct TreeFormat<'t, 'qs> {
     pub(crate) around: Vec<Outer<'t, 'qs>>,
     // What the type requested of the current node.
     pub(crate) asked: Asked,
-    // How many items the list that ended last had, and whether they were the fields of a struct.
+    // Whether this is for a variant of an untagged enum, which has to read the whole node.
+    pub(crate) is_tried: bool,
+    // How many items the list that ended last had.
     pub(crate) count: usize,
-    pub(crate) lacks_items: bool,
     pub(crate) search: Search,
+    // What the search should assume.
+    pub(crate) doubts: Doubts,
+    pub(crate) clues: Clues,
 }
 
 /// What the type requested of the current node, for an error that is made later.
@@ -56,12 +61,26 @@ pub(crate) enum Asked {
     Signed(Part),
     /// The variant that a text names.
     Variant,
-    /// A variant by a key, which names none. The error for a unit is then as for `Unit`.
+    /// The variant that the key of an entry names.
+    Entry,
+    /// A variant or a field by a key, which names none. The error for a unit is then as for `Unit`.
     Key,
     /// A variant by the first key of a map that has no key.
     Enum,
+    /// The value of the only key that was requested, such as the content of an enum.
+    Content,
+    /// The only key that was requested, which there isn't.
+    Lacking,
+    /// The kind of the node.
+    Kind,
+    /// Its kind, and then a mark, which may be that of an untagged enum; whether the mark is in a variant of another one.
+    Marked(bool),
+    /// The same with a second mark.
+    MarkedTwice(bool),
     /// Each of several ways to read the node.
     Tried,
+    /// An item of a list that ended.
+    Ended,
     /// Not known.
     Nothing,
 }
@@ -76,6 +95,16 @@ pub(crate) struct Search {
     /// Which of them, counted from 1, is replaced by a number that `width` doesn't hold; 0 for none.
     pub(crate) probed: usize,
     pub(crate) width: Width,
+    pub(crate) doubts: Doubts,
+}
+
+/// What a read doesn't learn of the type. It assumes otherwise, and if it fails, a second read assumes this.
+#[derive(Clone, Copy)]
+pub(crate) struct Doubts {
+    /// A struct may be read from a list with fewer items than it has fields.
+    pub(crate) is_short: bool,
+    /// A mark after a look at the node may be that of an enum with a tag, in place of an untagged enum.
+    pub(crate) is_tagged: bool,
 }
 
 /// A place in a tree that a format can return to.
@@ -86,6 +115,9 @@ pub struct Mark<'t, 'qs> {
     pub(crate) top: &'t ParsedValue<'qs>,
     pub(crate) node: &'t ParsedValue<'qs>,
     pub(crate) part: Part,
+    // Whether it is in a variant of an untagged enum, and whether it is the mark of one.
+    pub(crate) is_tried: bool,
+    pub(crate) is_try: bool,
 }
 
 impl Search {
@@ -98,7 +130,23 @@ impl Search {
             numbers: 0,
             probed: 0,
             width: Width::Bits64,
+            doubts: Doubts::none(),
         }
+    }
+}
+
+impl Doubts {
+    /// Returns that there are none.
+    pub(crate) fn none() -> Doubts {
+        Doubts {
+            is_short: false,
+            is_tagged: false,
+        }
+    }
+
+    /// Returns whether there is one.
+    pub(crate) fn is_any(self) -> bool {
+        self.is_short || self.is_tagged
     }
 }
 
@@ -113,6 +161,7 @@ impl<'t, 'qs> TreeFormat<'t, 'qs> {
         ensures duplicates { result.reader.reject_duplicates ≡ are_rejected config.duplicates }
         ensures plain { IsPlain result }
         ensures place { IsAt result }
+        ensures tried { result.is_tried ≡ false }
     {
         TreeFormat {
             reader: Reader::new(alloc, config),
@@ -122,9 +171,11 @@ impl<'t, 'qs> TreeFormat<'t, 'qs> {
             frame: None,
             around: Vec::new(alloc),
             asked: Asked::Unit,
+            is_tried: false,
             count: 0,
-            lacks_items: false,
             search: Search::none(),
+            doubts: Doubts::none(),
+            clues: Clues::none(alloc),
         }
     }
 
@@ -143,27 +194,41 @@ impl<'t, 'qs> TreeFormat<'t, 'qs> {
         }
     }
 
-    /// Returns this part of the current node.
+    /// Returns this part of the current node, as a scalar reads it.
     #[inline(always)]
     pub(crate) fn part(&self, part: Part) -> Node<'t, 'qs>
-        ensures { node_tree result ≡ part_view self.now part }
+        ensures { node_tree result ≡ scalar_of part (part_view self.now part) }
     {
         match part {
             Part::Value | Part::Held => Node::Value(self.node),
             Part::NoValue => Node::NoValue,
             Part::Key => self.key(),
+            Part::Whole => Node::whole(self.node),
+            Part::Nothing => Node::Nothing,
+        }
+    }
+
+    /// Returns the part of a node that is read first.
+    #[inline(always)]
+    pub(crate) fn value_part(&self) -> Part
+        ensures { result ≡ value_part self.now.is_tried }
+    {
+        if self.is_tried {
+            Part::Whole
+        } else {
+            Part::Value
         }
     }
 
     /// Takes what is next. After a key, its value is next.
     #[inline(always)]
     pub(crate) fn take(&mut self) -> Node<'t, 'qs>
-        ensures node { node_tree result ≡ tree_at self.old }
+        ensures node { node_tree result ≡ scalar_at self.old }
         ensures takes { Takes self.old self.new }
     {
         let node = self.part(self.part);
         if self.part == Part::Key {
-            self.part = Part::Value;
+            self.part = self.value_part();
         }
         node
     }
@@ -175,8 +240,8 @@ impl<'t, 'qs> TreeFormat<'t, 'qs> {
         ensures same { IfOk result (λ v. v.now ≡ self.now.node.now) }
     {
         match self.part {
-            Part::Value | Part::Held | Part::NoValue => Ok(self.node),
-            Part::Key => Err(self.no_value()),
+            Part::Value | Part::Held | Part::NoValue | Part::Whole => Ok(self.node),
+            Part::Key | Part::Nothing => Err(self.no_value()),
         }
     }
 
@@ -197,7 +262,8 @@ impl<'t, 'qs> TreeFormat<'t, 'qs> {
 
     /// Leaves the innermost list or map, which is then the current node again.
     pub(crate) fn close(&mut self)
-        ensures { Leaves self.old self.new }
+        ensures leaves { Leaves self.old self.new }
+        ensures tried { self.new.is_tried ≡ self.old.is_tried }
     {
         self.node = self.top;
         self.asked = Asked::Unit;
@@ -221,6 +287,7 @@ impl<'t, 'qs> TreeFormat<'t, 'qs> {
     pub(crate) fn advance(&mut self, frame: Frame, value: &'t ParsedValue<'qs>)
         ensures moves { kind_of self.old ≡ Some frame.kind → frame.next < 18446744073709551615 → child_at (tree_of self.old.top.now) frame.next ≡ tree_of value.now → Moves frame.next self.old self.new }
         ensures node { self.new.node.now ≡ value.now }
+        ensures field { field_of self.new ≡ frame.field }
         ensures kept { self.new ≡ record self.old { node = self.new.node; frame = self.new.frame; asked = self.new.asked } }
     {
         self.frame = Some(frame.advanced());

@@ -50,10 +50,19 @@ impl Frame {
     /// Returns the frame one item or entry further.
     #[inline(always)]
     pub(crate) fn advanced(self) -> Frame
-        ensures { self.next < 18446744073709551615 → result ≡ record self { next = suc self.next } }
+        ensures next { self.next < 18446744073709551615 → result ≡ record self { next = suc self.next } }
+        ensures field { result.field ≡ self.field }
     {
         Frame {
             next: self.next.saturating_add(1),
+            ..self
+        }
+    }
+
+    /// Returns the frame at the item or entry of this index.
+    pub(crate) fn over(self, at: usize) -> Frame {
+        Frame {
+            next: at.saturating_add(1),
             ..self
         }
     }

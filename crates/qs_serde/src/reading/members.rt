@@ -2,7 +2,7 @@
 
 #![tactic(auto, using(crate::proofs::Errors::step_errors))]
 
-ghost use Rattle.std.specs.Prelude.{◌≡◌, true, ℕ, ◌≢◌, [], Ok, None, Some, IfErr, IfOk, OnOk, IfSome, IfNone, MatchBool, MatchOption, drop, slice_get};
+ghost use Rattle.std.specs.Prelude.{◌≡◌, true, ℕ, ◌≢◌, [], Ok, None, Some, IfErr, IfOk, OnOk, IfSome, IfNone, MatchBool, MatchOption, drop, slice_get, IsTrue};
 ghost use Rattle.serde.specs.Event.{map_ends};
 ghost use Rattle.qs_tree.specs.tree.Views.{tree_of};
 ghost use Rattle.qs_data.specs.read.internal.ReadError.{ReadGives, ReadRejects};
@@ -10,13 +10,14 @@ ghost use Rattle.qs_data.specs.read.Items.{first_item};
 ghost use Rattle.qs_data.specs.read.TreeText.{is_text};
 ghost use Rattle.qs_serde.specs.Errors.{FailsOn, IsStepError};
 ghost use Rattle.qs_serde.specs.Nodes.{listed, pairs_in};
-ghost use Rattle.qs_serde.specs.Places.{count_of, kind_of};
-ghost use Rattle.qs_serde.specs.Steps.{Comes, EntryComes, EntryIs, HasNoItem, HasParts, Leaves, Picks, Reads, next_node, next_struct};
+ghost use Rattle.qs_serde.specs.Places.{count_of, kind_of, value_part};
+ghost use Rattle.qs_serde.specs.Steps.{Comes, EndsAt, EntryComes, EntryIs, FieldComes, HasNoItem, HasNoName, HasParts, IsPlain, Leaves, Picks, Reads, field_of, list_kind, next_node, next_struct, whole_struct};
+ghost use Rattle.qs_serde.specs.Tries.{may_enter};
 
 use super::format::{Asked, TreeFormat};
 use super::frame::{Frame, FrameKind};
 use super::names::{find_node, first_name};
-use super::node::{Node, Part, entry_at, item_at};
+use super::node::{Node, Part, entry_at, is_list, item_at};
 use super::{ReadError, Result};
 use qs_tree::ParsedValue;
 use serde::Name;
@@ -28,11 +29,13 @@ impl<'t, 'qs> TreeFormat<'t, 'qs> {
     pub(crate) fn go_to_item(&mut self, frame: Frame) -> Result<bool>
         ensures errors { IfErr result (λ e. IsStepError true e × ReadRejects true e (first_item (drop frame.next (listed (tree_of self.old.top.now))))) }
         ensures step { kind_of self.old ≡ Some frame.kind → count_of self.old ≡ frame.next → IfOk result (λ b. MatchBool b (Comes self.old self.new) (HasNoItem self.old × Leaves self.old self.new)) }
+        ensures field { IfOk result (λ b. IsTrue b → field_of self.new ≡ frame.field) }
+        ensures tried { self.new.is_tried ≡ self.old.is_tried }
     {
         match item_at(self.reader, self.top, frame.next) {
             Ok(Some(value)) => {
                 self.advance(frame, value);
-                self.part = Part::Value;
+                self.part = self.value_part();
                 Ok(true)
             }
             Ok(None) => {
@@ -49,20 +52,12 @@ impl<'t, 'qs> TreeFormat<'t, 'qs> {
     // Leaves the innermost list after its last item.
     #[inline(never)]
     fn leave_list(&mut self, frame: Frame)
-        ensures { Leaves self.old self.new }
+        ensures leaves { Leaves self.old self.new }
+        ensures tried { self.new.is_tried ≡ self.old.is_tried }
     {
         self.count = frame.next;
-        self.lacks_items = matches!(frame.kind, FrameKind::Places);
         self.close();
-    }
-
-    // Leaves the innermost map.
-    #[inline(never)]
-    fn leave_map(&mut self)
-        ensures { Leaves self.old self.new }
-    {
-        self.lacks_items = false;
-        self.close();
+        self.asked = Asked::Ended;
     }
 
     /// Goes to the entry at the frame's index in the innermost map, and returns its key. At the end it leaves the map.
@@ -71,6 +66,7 @@ impl<'t, 'qs> TreeFormat<'t, 'qs> {
     pub(crate) fn go_to_entry(&mut self, frame: Frame) -> Option<Node<'t, 'qs>>
         ensures some { kind_of self.old ≡ Some frame.kind → IfSome result (λ key. EntryComes frame.next key self.old self.new) }
         ensures none { IfNone result ((slice_get (pairs_in (tree_of self.old.top.now)) frame.next ≡ None) × Leaves self.old self.new) }
+        ensures tried { self.new.is_tried ≡ self.old.is_tried }
     {
         match entry_at(self.top, frame.next) {
             Some((key, value)) => {
@@ -78,7 +74,7 @@ impl<'t, 'qs> TreeFormat<'t, 'qs> {
                 Some(key)
             }
             None => {
-                self.leave_map();
+                self.close();
                 None
             }
         }
@@ -94,6 +90,7 @@ impl<'t, 'qs> TreeFormat<'t, 'qs> {
     ) -> Result<Option<usize>>
         ensures some { kind_of self.old ≡ Some frame.kind → IfOk result (λ o. IfSome o (λ at. EntryIs frame.next names.now at part self.old self.new)) }
         ensures none { IfOk result (λ o. IfNone o ((slice_get (pairs_in (tree_of self.old.top.now)) frame.next ≡ None) × Leaves self.old self.new)) }
+        ensures tried { self.new.is_tried ≡ self.old.is_tried }
         ensures errors { FailsOn (tree_of self.old.top.now) result }
     {
         let map = self.top;
@@ -111,6 +108,22 @@ impl<'t, 'qs> TreeFormat<'t, 'qs> {
     #[inline(never)]
     pub(crate) fn go_to_key(&mut self, names: &[Name<'_>]) -> Result<Option<usize>>
         ensures step { IfOk result (λ o. MatchOption o (Reads self.old map_ends self.new) (λ at. Picks self.old true names.now at self.new)) }
+        ensures end { IfOk result (λ o. IfNone o (IsPlain self.old → EndsAt (kind_of self.old) self.old names.now)) }
+        ensures enters { kind_of self.old ≡ Some FrameKind.Map → OnOk result (may_enter names.now self.old ≡ true) }
+        ensures errors { FailsOn (tree_of self.old.top.now) result }
+    {
+        let found = self.go_by_kind(names)?;
+        if self.search.in_order {
+            self.note_names(names, found)?;
+        }
+        Ok(found)
+    }
+
+    // Goes to the next key of a list or map of any kind.
+    fn go_by_kind(&mut self, names: &[Name<'_>]) -> Result<Option<usize>>
+        ensures step { IfOk result (λ o. MatchOption o (Reads self.old map_ends self.new) (λ at. Picks self.old true names.now at self.new)) }
+        ensures end { IfOk result (λ o. IfNone o (IsPlain self.old → EndsAt (kind_of self.old) self.old names.now)) }
+        ensures enters { kind_of self.old ≡ Some FrameKind.Map → OnOk result (may_enter names.now self.old ≡ true) }
         ensures errors { FailsOn (tree_of self.old.top.now) result }
     {
         let Some(frame) = self.frame else {
@@ -122,7 +135,7 @@ impl<'t, 'qs> TreeFormat<'t, 'qs> {
                 if self.search.in_order {
                     self.go_to_field(names, frame)
                 } else {
-                    self.go_to_member(names, frame, Part::Value)
+                    self.go_to_member(names, frame, self.value_part())
                 }
             }
             FrameKind::Places => self.go_to_place(names, frame),
@@ -130,10 +143,12 @@ impl<'t, 'qs> TreeFormat<'t, 'qs> {
         }
     }
 
-    /// Goes to the next item of a sequence that is read as a struct, and returns the index of its field. Further items are passed over.
+    /// Goes to the next item of a sequence that is read as a struct, and returns the index of its field. Further items are passed over, but
+    /// each field has an item.
     fn go_to_place(&mut self, names: &[Name<'_>], frame: Frame) -> Result<Option<usize>>
         ensures errors { FailsOn (tree_of self.old.top.now) result }
-        ensures step { kind_of self.old ≡ Some frame.kind → count_of self.old ≡ frame.next → IfOk result (λ o. MatchOption o (Leaves self.old self.new) (λ _. Comes self.old self.new)) }
+        ensures some { kind_of self.old ≡ Some frame.kind → count_of self.old ≡ frame.next → field_of self.old ≡ frame.field → IfOk result (λ o. IfSome o (λ at. FieldComes names.now at self.old self.new)) }
+        ensures none { IfOk result (λ o. IfNone o (HasNoName names.now frame.field × Leaves self.old self.new)) }
     {
         let Some(at) = first_name(names, frame.field) else {
             self.leave_list(frame);
@@ -141,17 +156,17 @@ impl<'t, 'qs> TreeFormat<'t, 'qs> {
         };
         let field = at.saturating_add(1);
         if self.go_to_item(Frame { field, ..frame })? {
-            Ok(Some(at))
-        } else {
-            Ok(None)
+            return Ok(Some(at));
         }
+        self.doubts.is_short = true;
+        Err(self.wrong_length())
     }
 
     /// Goes to the next entry of a struct, and returns the index of its field. Entries are in the order of their fields, with other keys
     /// last.
     fn go_to_field(&mut self, names: &[Name<'_>], frame: Frame) -> Result<Option<usize>>
         ensures errors { FailsOn (tree_of self.old.top.now) result }
-        ensures some { kind_of self.old ≡ Some frame.kind → IfOk result (λ o. IfSome o (λ at. (i : ℕ) × EntryIs i names.now at Part.Value self.old self.new)) }
+        ensures some { kind_of self.old ≡ Some frame.kind → IfOk result (λ o. IfSome o (λ at. (i : ℕ) × EntryIs i names.now at (value_part self.old.is_tried) self.old self.new)) }
         ensures none { IfOk result (λ o. IfNone o (Leaves self.old self.new)) }
     {
         match self.field_after(names, frame) {
@@ -161,10 +176,10 @@ impl<'t, 'qs> TreeFormat<'t, 'qs> {
                     field,
                     ..frame
                 };
-                self.go_to_member(names, frame, Part::Value)
+                self.go_to_member(names, frame, self.value_part())
             }
             None => {
-                self.leave_map();
+                self.close();
                 Ok(None)
             }
         }
@@ -198,38 +213,7 @@ impl<'t, 'qs> TreeFormat<'t, 'qs> {
         None
     }
 
-    /// Goes to the next entry of a map that names a variant or is shared, and returns the index of the name that its key matches. At the
-    /// end of an enum there are no names: its map ends, and the other keys are passed over.
-    fn go_to_shared(&mut self, names: &[Name<'_>], frame: Frame) -> Result<Option<usize>>
-        ensures some { kind_of self.old ≡ Some frame.kind → IfOk result (λ o. IfSome o (λ at. EntryIs frame.next names.now at Part.Held self.old self.new)) }
-        ensures none { IfOk result (λ o. IfNone o (Leaves self.old self.new)) }
-        ensures whole { names.now ≢ [] → IfOk result (λ o. IfNone o (slice_get (pairs_in (tree_of self.old.top.now)) frame.next ≡ None)) }
-        ensures end { names.now ≡ [] → result ≡ Ok None }
-        ensures errors { FailsOn (tree_of self.old.top.now) result }
-    {
-        if names.is_empty() {
-            self.close();
-            return Ok(None);
-        }
-        let found = self.go_to_member(names, frame, Part::Held)?;
-        self.note(found, frame.next == 0);
-        Ok(found)
-    }
-
-    // Notes what the key matches, for the error of an enum that has no variant of its name.
-    #[inline(always)]
-    fn note(&mut self, found: Option<usize>, is_first: bool)
-        ensures { self.new ≡ record self.old { asked = self.new.asked } }
-    {
-        self.asked = match found {
-            Some(usize::MAX) => Asked::Key,
-            Some(_) => Asked::Unit,
-            None if is_first => Asked::Enum,
-            None => Asked::Nothing,
-        };
-    }
-
-    /// Returns the kind of frame by which what is next is read as a struct. A text holds fields only in a variant, under the empty key.
+    /// Returns the kind of frame by which what is next is read as a struct.
     #[tactic(auto, using(crate::proofs::Errors::rejects_custom, crate::proofs::Errors::rejects_further))]
     pub(crate) fn kind_of_struct(&self) -> Result<FrameKind>
         ensures exact { ReadGives (λ kind. kind) (is_text (tree_of self.now.node.now)) result (next_struct self.now) }
@@ -237,12 +221,37 @@ impl<'t, 'qs> TreeFormat<'t, 'qs> {
         ensures node { OnOk result (next_node self.now ≡ Some (tree_of self.now.node.now)) }
     {
         let node = self.next_node()?;
+        if self.part == Part::Whole {
+            return self.kind_of_whole(node);
+        }
         match node {
             ParsedValue::NoValue | ParsedValue::Null | ParsedValue::Map(_) => Ok(FrameKind::Fields),
-            ParsedValue::Sequence(_) => Ok(FrameKind::Places),
-            ParsedValue::String(_) if self.part == Part::Held => Ok(FrameKind::Fields),
+            ParsedValue::Sequence(_) => Ok(self.kind_of_list()),
             ParsedValue::String(_) => Err(self.error(self.reader.not_a_struct(node))),
             ParsedValue::Uninitialized => Err(self.error(self.reader.nothing())),
         }
+    }
+
+    // Returns the kind of frame by which a sequence is read as a struct: each item as a field, or all items if the sequence may end early.
+    fn kind_of_list(&self) -> FrameKind
+        ensures { result ≡ list_kind self.now.search.doubts.is_short }
+    {
+        if self.search.doubts.is_short {
+            FrameKind::Items
+        } else {
+            FrameKind::Places
+        }
+    }
+
+    // Returns the kind of frame by which a variant of an untagged enum reads a node as a struct: all items of a list, or the fields of a map.
+    #[tactic(auto, using(crate::proofs::Errors::rejects_custom, crate::proofs::Errors::rejects_further))]
+    fn kind_of_whole(&self, node: &ParsedValue<'_>) -> Result<FrameKind>
+        ensures { ReadGives (λ kind. kind) (is_text (tree_of node.now)) result (whole_struct (tree_of node.now)) }
+    {
+        if is_list(node) {
+            return Ok(FrameKind::Items);
+        }
+        self.test_map(node)?;
+        Ok(FrameKind::Fields)
     }
 }

@@ -1,12 +1,14 @@
 //! Names, and the texts and keys that match them.
 
-ghost use Rattle.std.specs.Prelude.{◌≡◌, ◌≤◌, ◌↔◌, false, decimal, HoldsAt, IfSome, IsTrue, true};
+ghost use Rattle.std.specs.Prelude.{◌≡◌, ◌<◌, ◌↔◌, false, decimal, IfSome, IsTrue, true, MatchOption};
+ghost use Rattle.std.specs.List.{list_any};
 ghost use Rattle.std.specs.Str.{is_utf8};
 ghost use Rattle.serde.specs.Names.{StandsFor};
 ghost use Rattle.qs_spec.specs.Segment.{segment_text};
 ghost use Rattle.qs_tree.specs.tree.Views.{segment_of_key, tree_of};
 ghost use Rattle.qs_serde.specs.Nodes.{node_tree};
 ghost use Rattle.qs_serde.specs.Lookups.{FindsText, LooksUp};
+ghost use Rattle.qs_serde.specs.Steps.{HasNoName, IsNextName};
 
 use super::node::Node;
 use itoa::Buffer;
@@ -24,7 +26,7 @@ pub(crate) fn find_node(names: &[Name<'_>], node: Node<'_, '_>) -> Option<usize>
         Node::Key(key) => Some(find_key(names, key)?),
         Node::Value(value) => Some(find_value(names, value)?),
         Node::EmptyKey => Some(find_text(names, &[])?),
-        Node::NoValue => None,
+        Node::NoValue | Node::Nothing => None,
     }
 }
 
@@ -112,7 +114,8 @@ fn find_number(names: &[Name<'_>], number: u32) -> usize
 
 /// Returns the index of the first name, from an index on, that isn't skipped.
 pub(crate) fn first_name(names: &[Name<'_>], from: usize) -> Option<usize>
-    ensures { IfSome result (λ at. (from ≤ at) × HoldsAt (λ name. name.skipped ≡ false) names.now at) }
+    ensures first { MatchOption result (HasNoName names.now from) (IsNextName names.now from) }
+    ensures index { IfSome result (λ at. at < 18446744073709551615) }
 {
     for at in from..names.len() {
         if !names[at].skipped {
@@ -120,4 +123,11 @@ pub(crate) fn first_name(names: &[Name<'_>], from: usize) -> Option<usize>
         }
     }
     None
+}
+
+/// Returns whether a name is skipped, such as that of a field whose fields share the map.
+pub(crate) fn has_skipped(names: &[Name<'_>]) -> bool
+    ensures { result ≡ list_any (λ name. name.skipped) names.now }
+{
+    names.iter().any(|name| name.skipped)
 }

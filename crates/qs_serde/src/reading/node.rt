@@ -2,9 +2,9 @@
 
 ghost use Rattle.std.specs.Prelude.{◌≡◌, ◌<◌, drop, false, true, None, Some, slice_get, option_map, IfOk, IfSome, MatchOption};
 ghost use Rattle.qs_spec.specs.Leaf.Leaf.{Text};
-ghost use Rattle.qs_spec.specs.Node.{keys_are_text};
+ghost use Rattle.qs_spec.specs.Node.{are_ints, keys_are_text};
 ghost use Rattle.qs_spec.specs.Tree.Tree.{leaf};
-ghost use Rattle.qs_tree.specs.tree.Views.{tree_of};
+ghost use Rattle.qs_tree.specs.tree.Views.{entries_of_map, tree_of};
 ghost use Rattle.qs_data.specs.data.Views.{data_of};
 ghost use Rattle.qs_data.specs.shape.Views.{shape_of};
 ghost use Rattle.qs_data.specs.read.Items.{first_item, items_view};
@@ -12,12 +12,13 @@ ghost use Rattle.qs_data.specs.read.Reads.{reads};
 ghost use Rattle.qs_data.specs.read.internal.ReadError.{ReadGives};
 ghost use Rattle.qs_data.specs.read.Keys.{entries_view};
 ghost use Rattle.qs_data.specs.read.TreeText.{is_text};
-ghost use Rattle.qs_serde.specs.Nodes.{IsEntry, listed, node_tree, pairs_in};
+ghost use Rattle.qs_serde.specs.Nodes.{IsEntry, is_list, is_map, listed, node_tree, pairs_in, whole_text};
+ghost use Rattle.qs_serde.specs.Places.{whole_part};
 
 use super::{ReadError, Result};
 use itoa::Buffer;
 use qs_data::{Data, NodeEntries, NodeItems, Reader, Shape};
-use qs_tree::{Key, ParsedValue};
+use qs_tree::{Key, ParsedMap, ParsedValue};
 use std::borrow::CowSlice;
 
 /// What the next step reads.
@@ -31,6 +32,8 @@ pub(crate) enum Node<'t, 'qs> {
     Key(&'t Key<'qs>),
     /// The empty key, under which a text is an entry.
     EmptyKey,
+    /// What no value is read from.
+    Nothing,
 }
 
 /// Which part of the current node is read next.
@@ -38,12 +41,29 @@ pub(crate) enum Node<'t, 'qs> {
 pub(crate) enum Part {
     /// The value.
     Value,
-    /// The value, under a key that may name a variant.
+    /// The value, under the key that names an enum's variant.
     Held,
     /// No value, in place of an empty one, for what an option holds.
     NoValue,
     /// The key, and then the value.
     Key,
+    /// The value, of which a variant of an untagged enum has to read all.
+    Whole,
+    /// No value, in place of an empty one, for such a variant.
+    Nothing,
+}
+
+impl Part {
+    /// Returns the same part for a variant of an untagged enum.
+    pub(crate) fn whole(self) -> Part
+        ensures { result ≡ whole_part self }
+    {
+        match self {
+            Part::Value | Part::Held | Part::Whole => Part::Whole,
+            Part::NoValue | Part::Nothing => Part::Nothing,
+            Part::Key => Part::Key,
+        }
+    }
 }
 
 // Returns a text as a node.
@@ -54,6 +74,17 @@ fn text_node(bytes: &[u8]) -> ParsedValue<'_>
 }
 
 impl<'t, 'qs> Node<'t, 'qs> {
+    /// Returns a node as a scalar reads it for a variant of an untagged enum: an empty value is an empty text, and only texts are read.
+    pub(crate) fn whole(value: &'t ParsedValue<'qs>) -> Node<'t, 'qs>
+        ensures { node_tree result ≡ whole_text (tree_of value.now) }
+    {
+        match value {
+            ParsedValue::String(_) => Node::Value(value),
+            ParsedValue::Null => Node::EmptyKey,
+            _ => Node::Nothing,
+        }
+    }
+
     /// Reads the node by a shape. A key is read as its text.
     pub(crate) fn read(self, reader: Reader, shape: &Shape) -> Result<Data>
         ensures { ReadGives data_of (is_text (node_tree self.entry)) result (reads reader.reject_duplicates (shape_of shape.now) (node_tree self.entry)) }
@@ -62,6 +93,7 @@ impl<'t, 'qs> Node<'t, 'qs> {
             Node::Value(value) => read_value(reader, shape, value),
             Node::NoValue => read_value(reader, shape, &ParsedValue::NoValue),
             Node::EmptyKey => read_value(reader, shape, &text_node(&[])),
+            Node::Nothing => read_value(reader, shape, &ParsedValue::Uninitialized),
             Node::Key(Key::Int(number)) => {
                 let mut buffer = Buffer::new();
                 let digits = buffer.format(*number).as_bytes();
@@ -116,6 +148,43 @@ fn items_in<'t, 'qs>(value: &'t ParsedValue<'qs>) -> NodeItems<'t, 'qs>
         ParsedValue::String(_) => NodeItems::One(value),
         _ => NodeItems::Empty,
     }
+}
+
+/// Returns whether a node is a list: a sequence, or a map whose keys are all integers.
+pub(crate) fn is_list(value: &ParsedValue<'_>) -> bool
+    ensures { result ≡ is_list (tree_of value.now) }
+{
+    match value {
+        ParsedValue::Sequence(_) => true,
+        ParsedValue::Map(map) => are_integers(map),
+        _ => false,
+    }
+}
+
+/// Returns whether a node is a map that isn't a list.
+pub(crate) fn is_map(value: &ParsedValue<'_>) -> bool
+    ensures { result ≡ is_map (tree_of value.now) }
+{
+    match value {
+        ParsedValue::Map(map) => !are_integers(map),
+        _ => false,
+    }
+}
+
+// Returns whether all keys of a map are integers.
+#[tactic(auto, using(qs_data::proofs::lemmas::read::Entries::after_all, qs_data::proofs::lemmas::read::Entries::after_none))]
+fn are_integers(map: &ParsedMap<'_>) -> bool
+    ensures { result ≡ are_ints (entries_of_map map.now) }
+{
+    for at in 0..map.len() {
+        let Some((key, _)) = map.at(at) else {
+            break;
+        };
+        if let Key::String(_) = key {
+            return false;
+        }
+    }
+    true
 }
 
 /// Returns the entries of a node that has a map of them.

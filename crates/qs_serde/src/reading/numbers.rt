@@ -8,7 +8,7 @@ ghost use Rattle.qs_spec.specs.Shape as s;
 ghost use Rattle.qs_data.specs.read.Reads.{reads};
 ghost use Rattle.qs_serde.specs.Errors.{FailsOn};
 ghost use Rattle.qs_serde.specs.Nodes.{node_tree};
-ghost use Rattle.qs_serde.specs.Places.{tree_at};
+ghost use Rattle.qs_serde.specs.Places.{scalar_at};
 ghost use Rattle.qs_serde.specs.Steps.{IsPlain, Notes, Returns, ReturnsParsed, Takes};
 
 use super::Result;
@@ -60,7 +60,7 @@ impl<'t, 'qs> TreeFormat<'t, 'qs> {
     pub(crate) fn signed(&mut self) -> Result<i64>
         ensures notes { Notes self.old self.new }
         ensures number { IsPlain self.old → Returns d.signed self.old (s.Shape.signed 64) result }
-        ensures errors { FailsOn (tree_at self.old) result }
+        ensures errors { FailsOn (scalar_at self.old) result }
     {
         let asked = Asked::Signed(self.part);
         let node = self.take();
@@ -83,7 +83,7 @@ impl<'t, 'qs> TreeFormat<'t, 'qs> {
     pub(crate) fn unsigned(&mut self) -> Result<u64>
         ensures notes { Notes self.old self.new }
         ensures number { IsPlain self.old → Returns d.unsigned self.old (s.Shape.unsigned 64) result }
-        ensures errors { FailsOn (tree_at self.old) result }
+        ensures errors { FailsOn (scalar_at self.old) result }
     {
         let asked = Asked::Unsigned(self.part);
         let node = self.take();
@@ -107,7 +107,7 @@ impl<'t, 'qs> TreeFormat<'t, 'qs> {
         T::Err: Drop,
         ensures takes { Takes self.old self.new }
         ensures parsed { ReturnsParsed T.from_str_gives self.old result }
-        ensures errors { FailsOn (tree_at self.old) result }
+        ensures errors { FailsOn (scalar_at self.old) result }
     {
         let text = self.text()?;
         match text.as_str().parse::<T>() {

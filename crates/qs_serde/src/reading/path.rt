@@ -1,5 +1,6 @@
 //! The path to the current node of a format, as text.
 
+use super::clues::Place;
 use super::format::TreeFormat;
 use super::frame::{Frame, FrameKind};
 use super::node::{Node, entry_at};
@@ -10,12 +11,45 @@ use std::fmt::{Display, Write};
 impl<'t, 'qs> TreeFormat<'t, 'qs> {
     /// Returns the path to the current node.
     pub(crate) fn path(&self) -> Result<String, AllocError> {
+        let mut path = self.path_around()?;
+        if let Some(frame) = self.frame {
+            append_segment(&mut path, frame, self.top)?;
+        }
+        Ok(path)
+    }
+
+    /// Returns the path to an entry of the innermost map, or of the current node if that is a map that was left.
+    pub(crate) fn path_to(&self, place: Place) -> Result<String, AllocError> {
+        if self.depth() >= place.depth {
+            let mut path = self.path_around()?;
+            if let Some(frame) = self.frame {
+                append_segment(&mut path, frame.over(place.at), self.top)?;
+            }
+            return Ok(path);
+        }
+        let mut path = self.path()?;
+        append_segment(
+            &mut path,
+            Frame::new(FrameKind::Map).over(place.at),
+            self.node,
+        )?;
+        Ok(path)
+    }
+
+    /// Returns the path to the variant that the current text names.
+    pub(crate) fn path_to_variant(&self) -> Result<String, AllocError> {
+        let mut path = self.path()?;
+        if let ParsedValue::String(text) = self.node {
+            append_name(&mut path, text.as_slice())?;
+        }
+        Ok(path)
+    }
+
+    // Returns the path to the innermost list or map.
+    fn path_around(&self) -> Result<String, AllocError> {
         let mut path = String::new(self.reader.alloc);
         for outer in &self.around {
             append_segment(&mut path, outer.frame, outer.top)?;
-        }
-        if let Some(frame) = self.frame {
-            append_segment(&mut path, frame, self.top)?;
         }
         Ok(path)
     }
@@ -49,13 +83,24 @@ fn append_index(path: &mut String, at: usize) -> Result<(), AllocError> {
 
 // Appends a key, after a dot if the path isn't empty.
 fn append_key(path: &mut String, key: &Key<'_>) -> Result<(), AllocError> {
-    if !path.is_empty() {
-        path.push('.')?;
-    }
     match key {
-        Key::Int(number) => append(path, number),
-        Key::String(text) => append_text(path, text.as_slice()),
+        Key::Int(number) => {
+            append_dot(path)?;
+            append(path, number)
+        }
+        Key::String(text) => append_name(path, text.as_slice()),
     }
+}
+
+// Appends a name, after a dot if the path isn't empty.
+fn append_name(path: &mut String, name: &[u8]) -> Result<(), AllocError> {
+    append_dot(path)?;
+    append_text(path, name)
+}
+
+// Appends a dot if the path isn't empty.
+fn append_dot(path: &mut String) -> Result<(), AllocError> {
+    if path.is_empty() { Ok(()) } else { path.push('.') }
 }
 
 // Appends bytes as text, with U+FFFD for each run of bytes that isn't UTF-8.

@@ -16,7 +16,7 @@ ghost use Rattle.qs_data.specs.read.TreeText.{is_text};
 ghost use Rattle.qs_data.specs.read.internal.GivenText.{given_text};
 ghost use Rattle.qs_serde.specs.Errors.{FailsOn, IsStepError};
 ghost use Rattle.qs_serde.specs.Nodes.{node_tree};
-ghost use Rattle.qs_serde.specs.Places.{tree_at};
+ghost use Rattle.qs_serde.specs.Places.{scalar_at};
 ghost use Rattle.qs_serde.specs.Steps.{Returns, Takes};
 
 use super::data::as_text;
@@ -47,7 +47,7 @@ impl<'t, 'qs> TreeFormat<'t, 'qs> {
     pub(crate) fn by_shape(&mut self, shape: &Shape) -> Result<Data>
         ensures takes { Takes self.old self.new }
         ensures exact { Returns data_of self.old (shape_of shape.now) result }
-        ensures errors { FailsOn (tree_at self.old) result }
+        ensures errors { FailsOn (scalar_at self.old) result }
     {
         let node = self.take();
         self.read_key(node, shape)
@@ -72,7 +72,7 @@ impl<'t, 'qs> TreeFormat<'t, 'qs> {
     pub(crate) fn text(&mut self) -> Result<String>
         ensures takes { Takes self.old self.new }
         ensures exact { Returns (λ v. d.text (string_bytes v)) self.old s.Shape.text result }
-        ensures errors { FailsOn (tree_at self.old) result }
+        ensures errors { FailsOn (scalar_at self.old) result }
     {
         let node = self.take();
         if let Some(text) = plain_text(node) {

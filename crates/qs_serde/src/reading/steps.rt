@@ -1,6 +1,6 @@
 //! The steps of reading that serde calls.
 
-ghost use Rattle.std.specs.Prelude.{◌≡◌, ◌↔◌, ⊤, true, false, None, IsSome, slice_range, string_bytes, IfErr, IfOk, IsOk, OnOk, IsTrue, MatchBool, MatchOption};
+ghost use Rattle.std.specs.Prelude.{◌≡◌, ◌↔◌, ⊤, true, false, None, IsSome, slice_range, string_bytes, IfErr, IfOk, IsOk, OnOk, IsTrue, MatchBool, MatchOption, Ok, Some, IfNone, ◌⊎◌, ◌&&◌};
 ghost use Rattle.qs_spec.specs.Leaf.Leaf.{NoValue};
 ghost use Rattle.qs_spec.specs.Tree.Tree.{leaf, uninitialized};
 ghost use Rattle.serde.specs.Event.{boolean, signed, unsigned, single, double, character, text, octets, key_begins, map_begins, map_ends, nothing, seq_begins, seq_ends};
@@ -12,14 +12,15 @@ ghost use Rattle.qs_spec.specs.Data as d;
 ghost use Rattle.qs_spec.specs.Shape as s;
 ghost use Rattle.qs_data.specs.read.TreeText.{is_text};
 ghost use Rattle.qs_serde.specs.Errors.{FailsOn, IsStepError};
-ghost use Rattle.qs_serde.specs.Places.{tree_at};
-ghost use Rattle.qs_serde.specs.Steps.{BeginsAfterLook, BeginsMap, BeginsStruct, Comes, Leaves, LooksInside, HasNoEntry, HasNoItem, IsPlain, next_float, next_item_of, ComesBack, IsMark, Picks, Reads, Returns, Stays, Takes, next_entries, next_items, next_struct};
+ghost use Rattle.qs_serde.specs.Places.{kind_of, scalar_at, tree_at};
+ghost use Rattle.qs_serde.specs.Steps.{BeginsAfterLook, BeginsMap, BeginsStruct, Comes, EndsAt, Leaves, Looks, LooksInside, HasNoEntry, HasNoItem, IsPlain, next_float, next_item_of, ComesBack, IsMark, Picks, Reads, Returns, Stays, Takes, next_entries, next_items, next_kind, next_struct, next_unit};
+ghost use Rattle.qs_serde.specs.Tries.{marked, may_enter, may_go_over};
 
 use super::data::{as_bool, as_bytes, as_char};
 use super::format::{Asked, Mark, TreeFormat};
 use super::frame::FrameKind;
 use super::names::find_node;
-use super::node::{Node, Part};
+use super::node::{Node, Part, is_list, is_map};
 use super::scalars::{borrowed_text, test_utf8};
 use super::{ReadError, Result};
 use qs_data::Shape;
@@ -56,7 +57,7 @@ impl<'t, 'qs> Format for TreeFormat<'t, 'qs> {
     fn i64(&mut self, _input: &[u8]) -> Result<i64>
         ensures step { IfOk result (λ v. Reads self.old (signed v) self.new) }
         ensures exact { IsPlain self.old → Returns d.signed self.old (s.Shape.signed 64) result }
-        ensures errors { FailsOn (tree_at self.old) result }
+        ensures errors { FailsOn (scalar_at self.old) result }
     {
         self.signed()
     }
@@ -65,7 +66,7 @@ impl<'t, 'qs> Format for TreeFormat<'t, 'qs> {
     fn u64(&mut self, _input: &[u8]) -> Result<u64>
         ensures step { IfOk result (λ v. Reads self.old (unsigned v) self.new) }
         ensures exact { IsPlain self.old → Returns d.unsigned self.old (s.Shape.unsigned 64) result }
-        ensures errors { FailsOn (tree_at self.old) result }
+        ensures errors { FailsOn (scalar_at self.old) result }
     {
         self.unsigned()
     }
@@ -86,14 +87,14 @@ impl<'t, 'qs> Format for TreeFormat<'t, 'qs> {
 
     fn f32(&mut self, _input: &[u8]) -> Result<f32>
         ensures step { IfOk result (λ v. Reads self.old (single v) self.new) }
-        ensures exact { ReadGives (λ x. x) (is_text (tree_at self.old)) result (next_float binary32 self.old) }
+        ensures exact { ReadGives (λ x. x) (is_text (scalar_at self.old)) result (next_float binary32 self.old) }
     {
         self.parsed()
     }
 
     fn f64(&mut self, _input: &[u8]) -> Result<f64>
         ensures step { IfOk result (λ v. Reads self.old (double v) self.new) }
-        ensures exact { ReadGives (λ x. x) (is_text (tree_at self.old)) result (next_float binary64 self.old) }
+        ensures exact { ReadGives (λ x. x) (is_text (scalar_at self.old)) result (next_float binary64 self.old) }
     {
         self.parsed()
     }
@@ -114,7 +115,7 @@ impl<'t, 'qs> Format for TreeFormat<'t, 'qs> {
     #[tactic(auto, using(crate::proofs::Errors::step_errors, crate::proofs::Borrowed::text_read, qs_data::proofs::lemmas::read::Scalars::scalar_bad))]
     fn plain_str(&mut self, input: &[u8]) -> Result<(usize, usize)>
         ensures step { IfOk result (λ r. Reads self.old (text (slice_range input.now r.0 r.1)) self.new) }
-        ensures errors { FailsOn (tree_at self.old) result }
+        ensures errors { FailsOn (scalar_at self.old) result }
     {
         let node = self.take();
         let Some(text) = borrowed_text(self.reader, node) else {
@@ -128,7 +129,7 @@ impl<'t, 'qs> Format for TreeFormat<'t, 'qs> {
     #[tactic(auto, using(crate::proofs::Errors::step_errors, crate::proofs::Borrowed::bytes_read))]
     fn plain_bytes(&mut self, input: &[u8]) -> Result<(usize, usize)>
         ensures step { IfOk result (λ r. Reads self.old (octets (slice_range input.now r.0 r.1)) self.new) }
-        ensures errors { FailsOn (tree_at self.old) result }
+        ensures errors { FailsOn (scalar_at self.old) result }
     {
         let node = self.take();
         let Some(text) = borrowed_text(self.reader, node) else {
@@ -159,12 +160,17 @@ impl<'t, 'qs> Format for TreeFormat<'t, 'qs> {
 
     fn peek(&mut self, _input: &[u8]) -> Result<Kind>
         ensures step { OnOk result (Stays self.old self.new) }
-        ensures errors { IfErr result (IsStepError true) }
+        ensures looks { Looks self.old self.new }
+        ensures kind { ReadGives (λ k. k) true result (next_kind self.old) }
     {
+        if self.part == Part::Key {
+            return Ok(Kind::Str);
+        }
+        self.asked = Asked::Kind;
         match self.part {
             Part::Key => Ok(Kind::Str),
-            Part::NoValue => Ok(Kind::Unit),
-            Part::Value | Part::Held => match self.node {
+            Part::NoValue | Part::Nothing => Ok(Kind::Unit),
+            Part::Value | Part::Held | Part::Whole => match self.node {
                 ParsedValue::Uninitialized => Err(self.error(self.reader.nothing())),
                 ParsedValue::Null | ParsedValue::NoValue => Ok(Kind::Unit),
                 ParsedValue::String(_) => Ok(Kind::Str),
@@ -178,11 +184,13 @@ impl<'t, 'qs> Format for TreeFormat<'t, 'qs> {
     #[tactic(auto, unfolding(qs_spec::specs::internal::ReadFunction::reads))]
     fn take_unit(&mut self, _input: &[u8]) -> Result<bool>
         ensures step { IfOk result (λ b. MatchBool b (Reads self.old nothing self.new) (Stays self.old self.new)) }
-        ensures returns { IsOk result }
+        ensures exact { result ≡ Ok (next_unit self.old) }
+        ensures kept { self.new ≡ self.old }
     {
         match self.part {
-            Part::Held | Part::NoValue => Ok(true),
+            Part::Held | Part::NoValue | Part::Nothing => Ok(true),
             Part::Value => Ok(matches!(self.node, ParsedValue::Null | ParsedValue::NoValue)),
+            Part::Whole => Ok(matches!(self.node, ParsedValue::NoValue)),
             Part::Key => Ok(false),
         }
     }
@@ -196,7 +204,7 @@ impl<'t, 'qs> Format for TreeFormat<'t, 'qs> {
         ensures errors { IfErr result (λ e. IsStepError true e × ((self.new ≡ self.old) × (tree_at self.old ≡ uninitialized))) }
     {
         match self.part {
-            Part::NoValue => Ok(true),
+            Part::NoValue | Part::Nothing => Ok(true),
             Part::Key => Ok(false),
             Part::Value | Part::Held => match self.node {
                 ParsedValue::NoValue => Ok(true),
@@ -204,6 +212,11 @@ impl<'t, 'qs> Format for TreeFormat<'t, 'qs> {
                     self.part = Part::NoValue;
                     Ok(false)
                 }
+                ParsedValue::Uninitialized => Err(self.error(self.reader.nothing())),
+                _ => Ok(false),
+            },
+            Part::Whole => match self.node {
+                ParsedValue::NoValue => Ok(true),
                 ParsedValue::Uninitialized => Err(self.error(self.reader.nothing())),
                 _ => Ok(false),
             },
@@ -216,6 +229,9 @@ impl<'t, 'qs> Format for TreeFormat<'t, 'qs> {
         ensures errors { IfErr result (λ e. ReadRejects true e (next_items self.old)) }
     {
         let node = self.next_node()?;
+        if self.part == Part::Whole && !is_list(node) {
+            return Err(self.no_value());
+        }
         ReadError::of_result(self.reader.alloc, self.reader.items(node))?;
         self.open(FrameKind::Items)
     }
@@ -224,6 +240,7 @@ impl<'t, 'qs> Format for TreeFormat<'t, 'qs> {
     fn next_item(&mut self, _input: &[u8]) -> Result<bool>
         ensures step { IfOk result (λ b. MatchBool b (Stays self.old self.new) (Reads self.old seq_ends self.new)) }
         ensures exact { IfOk result (λ b. MatchBool b (Comes self.old self.new) (HasNoItem self.old × Leaves self.old self.new)) }
+        ensures tried { self.new.is_tried ≡ self.old.is_tried }
         ensures errors { IfErr result (λ e. IsStepError true e × (IsSome self.old.frame → ReadRejects true e (next_item_of self.old))) }
     {
         let Some(frame) = self.frame else {
@@ -232,11 +249,20 @@ impl<'t, 'qs> Format for TreeFormat<'t, 'qs> {
         self.go_to_item(frame)
     }
 
-    // Skips the further items of a sequence that is longer than the tuple.
-    fn end_tuple(&mut self, _input: &[u8]) -> Result<()>
+    // Skips the further items of a sequence that is longer than the tuple, unless all has to be read.
+    #[tactic(auto, using(crate::proofs::Errors::step_errors, crate::proofs::Errors::rejects_end))]
+    fn end_tuple(&mut self, input: &[u8]) -> Result<()>
         ensures step { OnOk result (Reads self.old seq_ends self.new) }
-        ensures returns { IsOk result }
+        ensures whole { self.old.is_tried ≡ true → OnOk result (HasNoItem self.old) }
+        ensures errors { IfErr result (λ e. IsStepError true e × (self.old.is_tried ≡ true) × (IsSome self.old.frame → (e ≡ OutOfMemory) ⊎ ¬ HasNoItem self.old)) }
+        ensures tried { self.new.is_tried ≡ self.old.is_tried }
     {
+        if self.is_tried {
+            if self.next_item(input)? {
+                return Err(self.wrong_length());
+            }
+            return Ok(());
+        }
         self.close();
         Ok(())
     }
@@ -248,6 +274,9 @@ impl<'t, 'qs> Format for TreeFormat<'t, 'qs> {
         ensures errors { IfErr result (λ e. ReadRejects true e (next_entries self.old)) }
     {
         let node = self.next_node()?;
+        if self.part == Part::Whole && !matches!(self.asked, Asked::Marked(_)) && !is_map(node) {
+            return Err(self.error(self.reader.not_an_enum(node)));
+        }
         ReadError::of_result(self.reader.alloc, self.reader.entries(node))?;
         self.open(FrameKind::Map)
     }
@@ -262,18 +291,20 @@ impl<'t, 'qs> Format for TreeFormat<'t, 'qs> {
     {
         let kind = self.kind_of_struct()?;
         self.open(kind)?;
-        Ok(false)
+        Ok(matches!(kind, FrameKind::Items))
     }
 
     #[inline(always)]
     fn next_key(&mut self, _input: &[u8], names: &[Name<'_>]) -> Result<Option<usize>>
         ensures step { IfOk result (λ o. MatchOption o (Reads self.old map_ends self.new) (λ at. Picks self.old true names.now at self.new)) }
+        ensures end { IfOk result (λ o. IfNone o (IsPlain self.old → EndsAt (kind_of self.old) self.old names.now)) }
+        ensures enters { kind_of self.old ≡ Some FrameKind.Map → OnOk result (may_enter names.now self.old ≡ true) }
         ensures errors { FailsOn (tree_of self.old.top.now) result }
     {
         if let Some(frame) = self.frame {
             if let FrameKind::Fields = frame.kind {
                 if !self.search.in_order {
-                    return self.go_to_member(names, frame, Part::Value);
+                    return self.go_to_member(names, frame, self.value_part());
                 }
             }
         }
@@ -283,12 +314,17 @@ impl<'t, 'qs> Format for TreeFormat<'t, 'qs> {
     fn next_entry(&mut self, _input: &[u8]) -> Result<bool>
         ensures step { IfOk result (λ b. MatchBool b (Reads self.old key_begins self.new) (Reads self.old map_ends self.new)) }
         ensures end { IfOk result (λ b. MatchBool b ⊤ (HasNoEntry self.old)) }
-        ensures returns { IsOk result }
+        ensures whole { IsSome self.old.frame → OnOk result (may_go_over self.old ≡ true) }
+        ensures errors { IfErr result (λ e. IsStepError true e × (may_go_over self.old ≡ false)) }
+        ensures tried { self.new.is_tried ≡ self.old.is_tried }
     {
         let Some(frame) = self.frame else {
             self.close();
             return Ok(false);
         };
+        if frame.next == 0 && matches!(self.asked, Asked::Marked(_)) && !is_map(self.top) {
+            return Err(self.no_value());
+        }
         match self.go_to_entry(frame) {
             Some(_) => {
                 self.part = Part::Key;
@@ -300,14 +336,16 @@ impl<'t, 'qs> Format for TreeFormat<'t, 'qs> {
 
     fn variant(&mut self, _input: &[u8], names: &[Name<'_>]) -> Result<usize>
         ensures step { IfOk result (λ at. Picks self.old false names.now at self.new) }
-        ensures errors { FailsOn (tree_at self.old) result }
+        ensures errors { FailsOn (scalar_at self.old) result }
     {
         let is_key = self.part == Part::Key;
         let node = self.take();
-        self.asked = if is_key { Asked::Key } else { Asked::Variant };
-        match find_node(names, node) {
+        self.asked = if is_key { Asked::Entry } else { Asked::Variant };
+        let found = find_node(names, node);
+        self.note_variant(matches!(found, Some(at) if at < names.len()));
+        match found {
             Some(at) => Ok(at),
-            None => Err(self.no_variant(node)),
+            None => Err(self.hinted(node, self.no_variant(node))),
         }
     }
 
@@ -316,22 +354,34 @@ impl<'t, 'qs> Format for TreeFormat<'t, 'qs> {
         ensures returns { IsOk result }
     {
         if self.part == Part::Key {
-            self.part = Part::Value;
+            self.part = self.value_part();
         }
         Ok(())
     }
 
     fn mark(&mut self) -> Mark<'t, 'qs>
         ensures mark { IsMark result self.old }
-        ensures kept { self.new ≡ self.old }
+        ensures marked { self.new ≡ marked self.old }
     {
-        Mark {
+        let mark = Mark {
             depth: self.around.len(),
             frame: self.frame,
             top: self.top,
             node: self.node,
             part: self.part,
+            is_tried: self.is_tried,
+            is_try: matches!(self.asked, Asked::Kind),
+        };
+        self.asked = match self.asked {
+            Asked::Kind => Asked::Marked(self.is_tried),
+            Asked::Marked(outer) => Asked::MarkedTwice(outer),
+            _ => Asked::Tried,
+        };
+        if mark.is_try {
+            self.is_tried = true;
+            self.part = mark.part.whole();
         }
+        mark
     }
 
     #[tactic(auto, using(crate::proofs::Places::comes_back))]
@@ -342,11 +392,20 @@ impl<'t, 'qs> Format for TreeFormat<'t, 'qs> {
         self.frame = mark.frame;
         self.top = mark.top;
         self.node = mark.node;
-        self.part = mark.part;
+        self.is_tried = self.is_tried && (mark.is_tried || mark.is_try);
+        self.part = if self.is_tried {
+            mark.part.whole()
+        } else {
+            mark.part
+        };
         self.asked = Asked::Tried;
     }
 
-    fn release(&mut self, _mark: Mark<'t, 'qs>) {}
+    fn release(&mut self, mark: Mark<'t, 'qs>)
+        ensures { self.new ≡ record self.old { is_tried = self.old.is_tried && mark.entry.is_tried } }
+    {
+        self.is_tried = self.is_tried && mark.is_tried;
+    }
 
     fn is_fatal(&self, error: &ReadError) -> bool
         ensures { IsTrue result ↔ (error.now ≡ OutOfMemory) }
@@ -354,17 +413,16 @@ impl<'t, 'qs> Format for TreeFormat<'t, 'qs> {
         matches!(error, ReadError::OutOfMemory)
     }
 
-    // A sequence that is read as a struct lacks an item rather than a name.
+    // A list that is read as a struct lacks an item rather than a name.
     fn missing(&self, name: &str) -> ReadError {
-        if self.lacks_items {
-            self.error(self.reader.missing_item(self.count))
-        } else {
-            self.error(self.reader.missing_field(name))
+        match self.asked {
+            Asked::Ended => self.wrong_length(),
+            _ => self.error(self.reader.missing_field(self.key_of(name))),
         }
     }
 
     fn duplicate(&self, name: &str) -> ReadError {
-        self.error(self.reader.duplicate_field(name))
+        self.error(self.reader.duplicate_field(self.last_key(name)))
     }
 
     fn unknown_key(&self) -> ReadError {
@@ -375,13 +433,14 @@ impl<'t, 'qs> Format for TreeFormat<'t, 'qs> {
     fn unknown_variant(&self) -> ReadError {
         match self.asked {
             Asked::Variant => self.no_variant(Node::Value(self.node)),
+            Asked::Entry => self.hinted(self.key(), self.no_variant(self.key())),
             Asked::Key => self.no_variant(self.key()),
-            _ => self.saying("unknown variant"),
+            _ => self.no_tag(),
         }
     }
 
     fn wrong_len(&self) -> ReadError {
-        self.error(self.reader.missing_item(self.count))
+        self.wrong_length()
     }
 
     fn invalid(&self) -> ReadError {

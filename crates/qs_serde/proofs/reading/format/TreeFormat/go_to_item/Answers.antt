@@ -4,7 +4,9 @@ use Rattle.qs_tree.specs.declared.tree.value.ParsedValue.{ParsedValue}
 use Rattle.qs_tree.specs.tree.Views.{tree_of}
 use Rattle.qs_data.specs.read.Items.{first_item}
 use Rattle.qs_serde.specs.Nodes.{listed}
+use Rattle.qs_serde.specs.Places.{value_part}
 use Rattle.qs_serde.specs.Steps.{Moves}
+use Rattle.qs_serde.specs.declared.reading.format.TreeFormat.{TreeFormat}
 use Rattle.qs_serde.proofs.Places.{item_child}
 use Rattle.qs_serde.proofs.reading.format.TreeFormat.go_to_item.Goals as goal
 
@@ -18,6 +20,6 @@ returns-in-Ok-Some-clause-step c kind count =
     let moved = subst (λ i. Moves i old now) (sym count) moves in
     record {
       item = ap (λ i. first_item (drop i (listed (tree_of old.top.now)))) count ∙ here ∙ ap (λ (v : ParsedValue). Some (Some (tree_of v))) (sym c.advance.ensures.node);
-      part = refl;
-      moves = record { count = moved.count; kind = moved.kind; around = moved.around; top = moved.top; keeps = moved.keeps };
+      part = c.value_part-self.ensures ∙ ap (λ (f : TreeFormat). value_part f.is_tried) c.advance.ensures.kept;
+      moves = record { count = moved.count; kind = moved.kind; around = moved.around; top = moved.top; tried = moved.tried; keeps = moved.keeps };
     }

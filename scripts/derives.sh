@@ -45,7 +45,7 @@ while IFS=$'\t' read -r mode depth repeated name input wanted && IFS= read -r fo
 done <"$golden/paths.tsv" 3<"$room/answers"
 
 # Read by both or rejected by both, and the same texts.
-python3 "$root/scripts/support/derives.py" 1 2000 query profile search order payment account paging trip labels >"$room/cases"
+python3 "$root/scripts/support/derives.py" 1 3000 profile order payment account trip labels >"$room/cases"
 for types in derives compound; do
     "$program" "$types" <"$room/cases" 2>"$room/said" | sed 's/^[^?].*/rejected/' >"$room/$types"
 done

@@ -95,14 +95,11 @@ ADJACENT = one(struct({"t": unit("Nothing")}), struct({"t": unit("One"), "c": wh
                struct({"t": unit("Named"), "c": struct({"a": whole(8), "b": text})}), struct({"t": unit("Size"), "c": struct({"width?": option(whole(8))})}),
                struct({"t": unit("Held"), "c": SHOWN}))
 TYPES = {
-    "query": struct({"name": text, "age": whole(8), "occupation": text}),
     "profile": struct({"name": text, "age": whole(8), "city": text, "zip": whole(32), "langs": seq(text), "sort": SORT, "size?": option(whole(16)),
                        "dark": boolean, "news": boolean, "visits": whole(64)}),
-    "search": struct({"text": text, "page?": option(whole(32)), "ranges": seq(seq(signed(64))), "labels": table(text, text)}),
     "order": struct({"name": text, "address": struct({"street": text, "city": text}), "items": seq(whole(32))}),
     "payment": struct({"amount": whole(32), "method": one(unit("Cash"), variant("Card", struct({"number": text, "year": whole(16)})))}),
     "account": struct({"firstName": text, "lastName": text, "user-id": whole(32)}),
-    "paging": struct({"text": text, "page?": whole(32), "short?": boolean}),
     "trip": struct({"a": row(whole(32), whole(32)), "b": seq(one(unit("Anywhere"), variant("At", row(signed(32), signed(32)))))}),
     "labels": struct({"a": table(text, whole(32)), "b": seq(option(signed(8)))}),
     "named": struct({"firstName": text, "n": whole(64), "pageSize?": whole(32), "lastPage?": whole(16), "tags?": seq(text), "token?": whole(8)}),
@@ -111,8 +108,6 @@ TYPES = {
                       struct({"type": unit("bank"), "year": whole(16)}), struct({"type": one(unit("gold"), unit("other"))}))),
     "spots": seq(one(struct({"kind": unit("anywhere")}), struct({"kind": unit("onMap"), "mapName": text, "zoom?": option(text)}))),
     "adjacent": seq(ADJACENT),
-    "wrapped": seq(ADJACENT),
-    "either": seq(one(whole(32), struct({"x": text, "y": text}), seq(text), text)),
     "choice": seq(one(row(text, text), boolean, SHOWN, SORT, seq(text, 4), table(text, text), text)),
     "contact": seq(one(unit("Nobody"), variant("Shown", one(SHOWN, text)), variant("Phone", one(struct({"number?": option(text)}), text)),
                        variant("Map", one(table(text, whole(8)), text)))),

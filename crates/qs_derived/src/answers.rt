@@ -2,9 +2,8 @@
 
 use crate::case::Case;
 use crate::types::{
-    Account, Adjacent, Choice, Contact, Either, Folder, Labels, Listing, Lists, Maps, Named,
-    Numbers, Order, Paging, Payment, Profile, Query, Search, Shown, Spot, Tagged, Texts, Trip,
-    Units, Wide, Wrapped,
+    Account, Adjacent, Choice, Contact, Folder, Labels, Listing, Lists, Maps, Named, Numbers, Order,
+    Payment, Profile, Shown, Spot, Tagged, Texts, Trip, Units, Wide,
 };
 use qs_callers as own;
 use qs_serde::{ArrayFormat, Error, PathError, Result, explain_str, to_string_with};
@@ -109,13 +108,10 @@ fn compound<T: serde_qs::Deserialize + serde_qs::Serialize + Drop>(
 /// Returns the answer to a case, of its type with derives.
 pub fn by_derive(alloc: Global, case: &Case<'_>) -> Line {
     match case.name {
-        "query" => derived::<Query>(alloc, case),
         "profile" => derived::<Profile>(alloc, case),
-        "search" => derived::<Search>(alloc, case),
         "order" => derived::<Order>(alloc, case),
         "payment" => derived::<Payment>(alloc, case),
         "account" => derived::<Account>(alloc, case),
-        "paging" => derived::<Paging>(alloc, case),
         "trip" => derived::<Trip>(alloc, case),
         "labels" => derived::<Labels>(alloc, case),
         _ => by_derive_alone(alloc, case),
@@ -130,8 +126,6 @@ fn by_derive_alone(alloc: Global, case: &Case<'_>) -> Line {
         "tagged" => derived::<Vec<Tagged>>(alloc, case),
         "spots" => derived::<Vec<Spot>>(alloc, case),
         "adjacent" => derived::<Vec<Adjacent>>(alloc, case),
-        "wrapped" => derived::<Vec<Wrapped>>(alloc, case),
-        "either" => derived::<Vec<Either>>(alloc, case),
         "choice" => derived::<Vec<Choice>>(alloc, case),
         "contact" => derived::<Vec<Contact>>(alloc, case),
         "shown" => derived::<Vec<Shown>>(alloc, case),
@@ -149,13 +143,10 @@ fn by_derive_alone(alloc: Global, case: &Case<'_>) -> Line {
 /// Returns the answer to a case, of its type that implements `Compound`.
 pub fn by_compound(alloc: Global, case: &Case<'_>) -> Line {
     match case.name {
-        "query" => compound::<own::Query>(alloc, case),
         "profile" => compound::<own::Profile>(alloc, case),
-        "search" => compound::<own::Search>(alloc, case),
         "order" => compound::<own::Order>(alloc, case),
         "payment" => compound::<own::Payment<own::Method>>(alloc, case),
         "account" => compound::<own::Account>(alloc, case),
-        "paging" => compound::<own::Paging>(alloc, case),
         "trip" => compound::<own::Pair<own::Span, Vec<own::Place>>>(alloc, case),
         "labels" => compound::<own::Pair<BTreeMap<String, own::Price>, Vec<Option<i8>>>>(
             alloc, case,

@@ -7,8 +7,8 @@ mod named;
 mod plain;
 mod values;
 
-pub use enums::{Adjacent, Choice, Contact, Either, Spot, Tagged, Wrapped};
+pub use enums::{Adjacent, Choice, Contact, Spot, Tagged};
 pub use lists::{Folder, Lists, Maps};
 pub use named::{Listing, Named, Shown};
-pub use plain::{Account, Labels, Order, Paging, Payment, Profile, Query, Search, Trip};
+pub use plain::{Account, Labels, Order, Payment, Profile, Trip};
 pub use values::{Numbers, Texts, Units, Wide};

@@ -44,18 +44,6 @@ pub enum Adjacent {
 }
 
 #[derive(Drop, Serialize, Deserialize)]
-pub struct Wrapped(Adjacent);
-
-#[derive(Drop, Serialize, Deserialize)]
-#[serde(untagged)]
-pub enum Either {
-    Number(u32),
-    Pair { x: String, y: String },
-    List(Vec<String>),
-    Text(String),
-}
-
-#[derive(Drop, Serialize, Deserialize)]
 #[serde(untagged)]
 pub enum Choice {
     Two(String, String),

@@ -4,13 +4,6 @@ use serde::{Deserialize, Serialize};
 use std::collections::BTreeMap;
 
 #[derive(Drop, Serialize, Deserialize)]
-pub struct Query {
-    name: String,
-    age: u8,
-    occupation: String,
-}
-
-#[derive(Drop, Serialize, Deserialize)]
 pub enum Sort {
     Relevance,
     By(String),
@@ -29,14 +22,6 @@ pub struct Profile {
     dark: bool,
     news: bool,
     visits: u64,
-}
-
-#[derive(Drop, Serialize, Deserialize)]
-pub struct Search {
-    text: String,
-    page: Option<u32>,
-    ranges: Vec<Vec<i64>>,
-    labels: BTreeMap<String, String>,
 }
 
 #[derive(Drop, Serialize, Deserialize)]
@@ -79,24 +64,6 @@ pub struct Account {
     last_name: String,
     #[serde(rename = "user-id")]
     id: Id,
-}
-
-#[derive(Drop, Serialize, Deserialize)]
-pub struct Page(u32);
-
-impl Default for Page {
-    fn default() -> Page {
-        Page(1)
-    }
-}
-
-#[derive(Drop, Serialize, Deserialize)]
-pub struct Paging {
-    text: String,
-    #[serde(default)]
-    page: Page,
-    #[serde(default, rename = "short")]
-    is_short: bool,
 }
 
 #[derive(Drop, Serialize, Deserialize)]

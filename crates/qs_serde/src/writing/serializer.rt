@@ -1,6 +1,10 @@
 //! The events that serde sends.
 
+ghost use Rattle.std.specs.Prelude.{ℕ, List};
+ghost use Rattle.serde.specs.Event.{boolean, signed, unsigned, character, text, octets, nothing, unit_variant, seq_begins, seq_ends, map_begins, map_ends, field_key, variant_key, key_begins, key_ends, flattens};
 ghost use Rattle.qs_serde.specs.Halts.{IsHaltSaying};
+ghost use Rattle.qs_serde.specs.Placed.{Moves};
+ghost use Rattle.qs_serde.specs.Sent.{sent, text_sent};
 
 use super::halt::Halt;
 use super::log::Note;
@@ -16,67 +20,91 @@ impl<K: Settings> Serializer for TextSerializer<K> {
 
     ghost written = { λ s. s.log.events };
 
-    fn bool(&mut self, v: bool) -> Result<(), Halt> {
+    fn bool(&mut self, v: bool) -> Result<(), Halt>
+        ensures { Moves (λ config. sent config (boolean v)) result self.old.position self.new.position }
+    {
         let made = self.position.scalar(Scalar::Bool(v));
         keep(&mut self.position, &mut self.log, made, &Note::Bool(v))
     }
 
-    fn i64(&mut self, v: i64) -> Result<(), Halt> {
+    fn i64(&mut self, v: i64) -> Result<(), Halt>
+        ensures { Moves (λ config. sent config (signed v)) result self.old.position self.new.position }
+    {
         let made = self.position.scalar(Scalar::Signed(v));
         keep(&mut self.position, &mut self.log, made, &Note::I64(v))
     }
 
-    fn u64(&mut self, v: u64) -> Result<(), Halt> {
+    fn u64(&mut self, v: u64) -> Result<(), Halt>
+        ensures { Moves (λ config. sent config (unsigned v)) result self.old.position self.new.position }
+    {
         let made = self.position.scalar(Scalar::Unsigned(v));
         keep(&mut self.position, &mut self.log, made, &Note::U64(v))
     }
 
-    fn i128(&mut self, v: i128) -> Result<(), Halt> {
+    fn i128(&mut self, v: i128) -> Result<(), Halt>
+        ensures { Moves (λ config. sent config (signed v)) result self.old.position self.new.position }
+    {
         let made = self
             .position
             .scalar(Scalar::Bytes(Buffer::new().format(v).as_bytes()));
         keep(&mut self.position, &mut self.log, made, &Note::I128(v))
     }
 
-    fn u128(&mut self, v: u128) -> Result<(), Halt> {
+    fn u128(&mut self, v: u128) -> Result<(), Halt>
+        ensures { Moves (λ config. sent config (unsigned v)) result self.old.position self.new.position }
+    {
         let made = self
             .position
             .scalar(Scalar::Bytes(Buffer::new().format(v).as_bytes()));
         keep(&mut self.position, &mut self.log, made, &Note::U128(v))
     }
 
-    fn f32(&mut self, v: f32) -> Result<(), Halt> {
+    fn f32(&mut self, v: f32) -> Result<(), Halt>
+        ensures { (bytes : List ℕ) × Moves (λ config s. text_sent config bytes s) result self.old.position self.new.position }
+    {
         let made = float(&mut self.position, v);
         keep(&mut self.position, &mut self.log, made, &Note::Single(v))
     }
 
-    fn f64(&mut self, v: f64) -> Result<(), Halt> {
+    fn f64(&mut self, v: f64) -> Result<(), Halt>
+        ensures { (bytes : List ℕ) × Moves (λ config s. text_sent config bytes s) result self.old.position self.new.position }
+    {
         let made = float(&mut self.position, v);
         keep(&mut self.position, &mut self.log, made, &Note::Double(v))
     }
 
-    fn char(&mut self, v: char) -> Result<(), Halt> {
+    fn char(&mut self, v: char) -> Result<(), Halt>
+        ensures { Moves (λ config. sent config (character v)) result self.old.position self.new.position }
+    {
         let made = self.position.scalar(Scalar::Char(v));
         keep(&mut self.position, &mut self.log, made, &Note::Char(v))
     }
 
-    fn str(&mut self, v: &str) -> Result<(), Halt> {
+    fn str(&mut self, v: &str) -> Result<(), Halt>
+        ensures { Moves (λ config. sent config (text v.now)) result self.old.position self.new.position }
+    {
         let made = self.position.scalar(Scalar::Bytes(v.as_bytes()));
         keep(&mut self.position, &mut self.log, made, &Note::Text(v))
     }
 
-    fn bytes(&mut self, v: &[u8]) -> Result<(), Halt> {
+    fn bytes(&mut self, v: &[u8]) -> Result<(), Halt>
+        ensures { Moves (λ config. sent config (octets v.now)) result self.old.position self.new.position }
+    {
         let made = self.position.scalar(Scalar::Bytes(v));
         keep(&mut self.position, &mut self.log, made, &Note::Bytes(v))
     }
 
     // serde sends the same event for `None` and `()`. Both are written as no value.
-    fn unit(&mut self) -> Result<(), Halt> {
+    fn unit(&mut self) -> Result<(), Halt>
+        ensures { Moves (λ config. sent config nothing) result self.old.position self.new.position }
+    {
         let made = self.position.nothing();
         keep(&mut self.position, &mut self.log, made, &Note::Unit)
     }
 
-    fn str_cased(&mut self, name: &str, case: Case) -> Result<(), Halt> {
+    fn str_cased(&mut self, name: &str, case: Case) -> Result<(), Halt>
+        ensures { Moves (λ config. sent config (unit_variant name.now case)) result self.old.position self.new.position }
+    {
         let made = variant(&mut self.position, &mut self.room, name, case);
         keep(
             &mut self.position,
@@ -86,7 +114,9 @@ impl<K: Settings> Serializer for TextSerializer<K> {
         )
     }
 
-    fn begin_seq(&mut self, len: Option<usize>) -> Result<(), Halt> {
+    fn begin_seq(&mut self, len: Option<usize>) -> Result<(), Halt>
+        ensures { Moves (λ config. sent config (seq_begins len)) result self.old.position self.new.position }
+    {
         let made = self.position.begin_seq();
         keep(
             &mut self.position,
@@ -96,12 +126,16 @@ impl<K: Settings> Serializer for TextSerializer<K> {
         )
     }
 
-    fn end_seq(&mut self) -> Result<(), Halt> {
+    fn end_seq(&mut self) -> Result<(), Halt>
+        ensures { Moves (λ config. sent config seq_ends) result self.old.position self.new.position }
+    {
         let made = self.position.end_seq();
         keep(&mut self.position, &mut self.log, made, &Note::EndSeq)
     }
 
-    fn begin_map(&mut self, len: Option<usize>) -> Result<(), Halt> {
+    fn begin_map(&mut self, len: Option<usize>) -> Result<(), Halt>
+        ensures { Moves (λ config. sent config (map_begins len)) result self.old.position self.new.position }
+    {
         let made = self.position.begin_map();
         keep(
             &mut self.position,
@@ -111,12 +145,16 @@ impl<K: Settings> Serializer for TextSerializer<K> {
         )
     }
 
-    fn end_map(&mut self) -> Result<(), Halt> {
+    fn end_map(&mut self) -> Result<(), Halt>
+        ensures { Moves (λ config. sent config map_ends) result self.old.position self.new.position }
+    {
         let made = self.position.end_map();
         keep(&mut self.position, &mut self.log, made, &Note::EndMap)
     }
 
-    fn key_cased(&mut self, name: &str, case: Case) -> Result<(), Halt> {
+    fn key_cased(&mut self, name: &str, case: Case) -> Result<(), Halt>
+        ensures { Moves (λ config. sent config (field_key name.now case)) result self.old.position self.new.position }
+    {
         let made = key(
             &mut self.position,
             &mut self.room,
@@ -132,7 +170,9 @@ impl<K: Settings> Serializer for TextSerializer<K> {
         )
     }
 
-    fn variant_key(&mut self, name: &str, case: Case) -> Result<(), Halt> {
+    fn variant_key(&mut self, name: &str, case: Case) -> Result<(), Halt>
+        ensures { Moves (λ config. sent config (variant_key name.now case)) result self.old.position self.new.position }
+    {
         let made = key(
             &mut self.position,
             &mut self.room,
@@ -148,17 +188,23 @@ impl<K: Settings> Serializer for TextSerializer<K> {
         )
     }
 
-    fn begin_key(&mut self) -> Result<(), Halt> {
+    fn begin_key(&mut self) -> Result<(), Halt>
+        ensures { Moves (λ config. sent config key_begins) result self.old.position self.new.position }
+    {
         let made = self.position.begin_key();
         keep(&mut self.position, &mut self.log, made, &Note::BeginKey)
     }
 
-    fn end_key(&mut self) -> Result<(), Halt> {
+    fn end_key(&mut self) -> Result<(), Halt>
+        ensures { Moves (λ config. sent config key_ends) result self.old.position self.new.position }
+    {
         let made = self.position.end_key();
         keep(&mut self.position, &mut self.log, made, &Note::EndKey)
     }
 
-    fn flatten_next(&mut self) -> Result<(), Halt> {
+    fn flatten_next(&mut self) -> Result<(), Halt>
+        ensures { Moves (λ config. sent config flattens) result self.old.position self.new.position }
+    {
         let made = self.position.flatten();
         keep(&mut self.position, &mut self.log, made, &Note::Flatten)
     }
@@ -169,7 +215,9 @@ impl<K: Settings> Serializer for TextSerializer<K> {
         self.position.rejected(message)
     }
 
-    fn collect_str<T: Display>(&mut self, value: &T) -> Result<(), Halt> {
+    fn collect_str<T: Display>(&mut self, value: &T) -> Result<(), Halt>
+        ensures { (bytes : List ℕ) × Moves (λ config s. text_sent config bytes s) result self.old.position self.new.position }
+    {
         let made = printed(&mut self.position, &mut self.room, value);
         keep(&mut self.position, &mut self.log, made, &Note::Printed)
     }

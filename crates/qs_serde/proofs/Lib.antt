@@ -2,6 +2,8 @@ pub mod Names
 pub mod Places
 pub mod RunLevels
 pub mod RunFields
+pub mod RunEnums
+pub mod RunPlaces
 pub mod RunMaps
 pub mod Runs
 pub mod Positions

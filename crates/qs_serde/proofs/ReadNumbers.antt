@@ -26,7 +26,7 @@ use Rattle.qs_spec.specs.Node.{last_item}
 use Rattle.qs_spec.specs.internal.ReadFunction.{reads, read_scalar}
 use Rattle.qs_data.specs.declared.read.error.ReadError.{ReadError}
 use Rattle.qs_data.specs.read.TreeText.{is_text}
-use Rattle.qs_data.specs.read.internal.ReadError.{ReadGives, ReadRejects}
+use Rattle.qs_data.specs.read.internal.ReadError.{ReadGives}
 use Rattle.qs_serde.specs.Places.{scalar_at}
 use Rattle.qs_serde.specs.Steps.{Notes, Reads, Returns, ReturnsParsed, Takes, next_float, next_text, text_in}
 use Rattle.qs_serde.specs.declared.reading.format.TreeFormat.{TreeFormat}

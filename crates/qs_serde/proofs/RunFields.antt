@@ -1,5 +1,5 @@
 -- The fields of a struct, as their entries are read.
-use Rattle.std.proofs.Common.{◌≡◌, inl, inr, ℕ, zero, suc, ◌==◌, ◌||◌, ◌&&◌, not, cond, Any, HoldsAt, ◌+◌, ◌-◌, ◌<◌, ◌≤◌, Bool, true, false, List, [], ◌∷◌, length, slice_get, Option, Some, None, IsSome, is_some, refl, sym, ap, subst, ◌∙◌, arith}
+use Rattle.std.proofs.Common.{◌≡◌, inl, inr, ℕ, zero, suc, ◌==◌, ◌||◌, ◌&&◌, not, cond, Any, HoldsAt, ◌+◌, ◌<◌, ◌≤◌, Bool, true, false, List, [], ◌∷◌, length, slice_get, Option, Some, None, IsSome, is_some, refl, sym, ap, subst, ◌∙◌, arith}
 use Rattle.std.specs.Option.{option_map, option_and_then}
 use Rattle.std.specs.Borrow.{Bor}
 use Rattle.qs_data.proofs.Common.{cases_Bool, false≢true, nat_tests}
@@ -22,7 +22,7 @@ use Rattle.qs_spec.specs.internal.ReadFunction.{Reader, reads, reads_names, read
 use Rattle.qs_tree.specs.declared.tree.value.ParsedValue.{ParsedValue}
 use Rattle.qs_tree.specs.tree.Views.{entry_list, tree_of}
 use Rattle.qs_serde.specs.Nodes.{key_tree, pairs_in}
-use Rattle.qs_serde.specs.Places.{count_of, innermost, is_tried_part, part_tree}
+use Rattle.qs_serde.specs.Places.{count_of, is_tried_part, part_tree}
 use Rattle.qs_serde.specs.Runs.{AreNamed, collected, field_at, read_of, slot}
 use Rattle.qs_serde.specs.Steps.{HasNoEntry, is_whole, kind_of_struct, node_at_part, part_struct}
 use Rattle.qs_serde.specs.declared.reading.frame.Frame.{Frame}
@@ -100,11 +100,11 @@ named_at (n ∷ ns) s.no_fields h j f e = absurd h
 named_at (n ∷ ns) (s.one_field name a o fs) h zero f e =
     let name_is : name ≡ f.0 = ap (λ (g : s.Field). g.0) (same_Some _ _ e) in (
       omega arith,
-      (λ t q. elim (q n).1 [ inl is ↦ is ∙ h.2 ∙ name_is | inr any ↦ absurd (no_alias t n.aliases.now h.1 any) ]),
-      (λ t is. λ dflt. (h.0, inl (is ∙ sym name_is ∙ sym h.2))),
+      (λ t q. elim (q n).1 [ inl is ↦ is ∙ h.0.2 ∙ name_is | inr any ↦ absurd (no_alias t n.aliases.now h.0.1 any) ]),
+      (λ t is. λ dflt. (h.0.0, inl (is ∙ sym name_is ∙ sym h.0.2))),
     )
 named_at (n ∷ ns) (s.one_field name a o fs) h (suc j) f e =
-    let rest = named_at ns fs h.3 j f e in
+    let rest = named_at ns fs h.1 j f e in
     let lt : j < length ns = rest.0 in
     (omega (lt, arith), rest.1, rest.2)
 

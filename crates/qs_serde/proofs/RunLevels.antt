@@ -16,7 +16,7 @@ use Rattle.qs_data.proofs.lemmas.read.Items.{first_some}
 use Rattle.qs_serde.specs.Nodes.{key_tree, listed}
 use Rattle.qs_serde.specs.Places.{count_of, innermost, is_tried_part, opens, part_tree, part_view, passed, scalar_at, scalar_of, tree_at, value_part}
 use Rattle.qs_serde.specs.Runs.{IsDirect, IsLevel, IsReady}
-use Rattle.qs_serde.specs.Steps.{Begins, Comes, Empties, Keeps, Leaves, Moves, is_whole, items_at, next_items, node_at_part}
+use Rattle.qs_serde.specs.Steps.{Begins, Comes, Empties, Keeps, Leaves, Looks, Moves, field_of, is_whole, items_at, next_field, next_items, node_at_part}
 use Rattle.qs_serde.specs.declared.reading.frame.Frame.{Frame}
 use Rattle.qs_serde.specs.declared.reading.frame.Outer.{Outer}
 use Rattle.qs_serde.specs.declared.reading.frame.FrameKind.{FrameKind}
@@ -40,10 +40,10 @@ snoc_same (a ∷ xs) (b ∷ ys) x y h =
     let both = snoc_same xs ys x y rest in
     (ap (λ z. z ∷ xs) front ∙ ap (λ zs. b ∷ zs) both.0, both.1)
 
-pub same_open : (os ps : List Outer) (t u : Bor ParsedValue) (a b : Option Frame) → os ++ option_to_list (innermost t a) ≡ ps ++ option_to_list (innermost u b) → IsSome a → IsSome b → (os ≡ ps) × (passed a ≡ passed b) × (t ≡ u)
+pub same_open : (os ps : List Outer) (t u : Bor ParsedValue) (a b : Option Frame) → os ++ option_to_list (innermost t a) ≡ ps ++ option_to_list (innermost u b) → IsSome a → IsSome b → (os ≡ ps) × (a ≡ b) × (t ≡ u)
 same_open os ps t u (Some a) (Some b) e x y =
     let both = snoc_same os ps (record { frame = a; top = t }) (record { frame = b; top = u }) e in
-    (both.0, ap (λ (o : Outer). o.frame.next) both.1, ap (λ (o : Outer). o.top) both.1)
+    (both.0, ap (λ (o : Outer). Some o.frame) both.1, ap (λ (o : Outer). o.top) both.1)
 same_open os ps t u None b e x y = absurd cc
 same_open os ps t u (Some a) None e x y = absurd cc
 
@@ -69,7 +69,7 @@ pub on : (old new : TreeFormat) → Keeps old new → IsDirect old → IsDirect 
 on old new h d = (ap (λ x. x.in_order) h.1 ∙ d.0, h.3 d.1)
 
 -- what is next, as a scalar reads it
-scalar_same : (q : Part) (t : Tree) → is_tried_part q ≡ false → scalar_of q t ≡ t
+pub scalar_same : (q : Part) (t : Tree) → is_tried_part q ≡ false → scalar_of q t ≡ t
 scalar_same p.Value t h = refl
 scalar_same p.Held t h = refl
 scalar_same p.NoValue t h = refl
@@ -163,12 +163,25 @@ after_item old come read moves l =
     let same = same_open read.around.items come.around.items read.top come.top read.frame come.frame l.opened is some in
     let one : suc (count_of old) ≡ count_of old + 1 = omega arith in record {
       around = same.0 ∙ moves.around;
-      count = same.1 ∙ moves.count ∙ one;
+      count = ap passed same.1 ∙ moves.count ∙ one;
       top = same.2 ∙ moves.top;
       begun = is;
       reader = l.reader ∙ moves.keeps.0;
       direct = λ h. l.direct (on old come moves.keeps h);
     }
+
+pub same_field : (come read : TreeFormat) → IsSome come.frame → IsLevel come read → field_of read ≡ field_of come
+same_field come read some l = ap next_field (same_open read.around.items come.around.items read.top come.top read.frame come.frame l.opened (l.open_as.1 some) some).1
+
+-- a look at the kind of what is next leaves it
+pub looked_on : (old looked : TreeFormat) → Looks old looked → IsReady old → (tree_at looked ≡ tree_at old) × IsReady looked × IsLevel old looked
+looked_on old looked (inl same) ready = subst (λ f. (tree_at f ≡ tree_at old) × IsReady f × IsLevel old f) (sym same) (refl, ready, taken old old refl refl refl refl (λ d. d))
+looked_on old looked (inr same) ready =
+    subst (λ f. (tree_at f ≡ tree_at old) × IsReady f × IsLevel old f) (sym same) (
+      refl,
+      record { part = ready.part; whole = ready.whole; tried = ready.tried; outer = ready.outer },
+      taken old _ refl refl refl refl (λ d. d),
+    )
 
 -- the items from here on
 abbrev pub rest_of : TreeFormat → List (Option Tree)

@@ -17,10 +17,11 @@ use Rattle.qs_spec.specs.Tree.Tree.{leaf, sequence, mapping, uninitialized}
 use Rattle.qs_spec.specs.internal.ReadFunction.{Reader, reads, read_map, read_pairs, with_front}
 use Rattle.qs_tree.specs.declared.tree.value.ParsedValue.{ParsedValue}
 use Rattle.qs_tree.specs.tree.Views.{entry_list, tree_of}
+use Rattle.qs_serde.specs.Lookups.{LooksUp}
 use Rattle.qs_serde.specs.Nodes.{key_tree, pairs_in}
 use Rattle.qs_serde.specs.Places.{count_of, is_tried_part, part_tree, part_view, scalar_at, scalar_of, tree_at, value_part}
 use Rattle.qs_serde.specs.Runs.{IsLevel, IsReady, KeyRun}
-use Rattle.qs_serde.specs.Runs.KeyRun.{boolean_key, unsigned_key, signed_key, character_key, text_key}
+use Rattle.qs_serde.specs.Runs.KeyRun.{boolean_key, unsigned_key, signed_key, character_key, text_key, variant_key}
 use Rattle.qs_serde.specs.Steps.{HasParts, IsPlain, Moves, node_at_part, part_after}
 use Rattle.qs_serde.specs.declared.reading.frame.FrameKind.TheVariants as k
 use Rattle.qs_serde.specs.declared.reading.node.Part.{Part}
@@ -29,6 +30,7 @@ use Rattle.qs_serde.specs.declared.reading.format.TreeFormat.{TreeFormat}
 use Rattle.qs_serde.proofs.ReadNumbers.{signed_of, unsigned_of}
 use Rattle.qs_serde.proofs.RunLevels.{AfterItem, counted_some, taken}
 use Rattle.qs_serde.proofs.RunFields.{after, after_some, entry_due}
+use Rattle.qs_serde.proofs.RunEnums.{named_key}
 
 -- the entries that a map reads
 abbrev pub map_entries : Tree → Entries
@@ -76,6 +78,7 @@ key_next key come x next (unsigned_key h lt) is tried = subst (IsNext come) (sym
 key_next key come x next (signed_key h low high) is tried = subst (IsNext come) (sym h.0) (value_after come is tried, refl, taken come _ refl refl refl refl (λ d. d))
 key_next key come x next (character_key h) is tried = subst (IsNext come) (sym h.0) (value_after come is tried, refl, taken come _ refl refl refl refl (λ d. d))
 key_next key come x next (text_key h) is tried = subst (IsNext come) (sym h.0) (value_after come is tried, refl, taken come _ refl refl refl refl (λ d. d))
+key_next key come x next (variant_key names at h named this) is tried = subst (IsNext come) (sym h.1) (value_after come is tried, refl, taken come _ refl refl refl refl (λ d. d))
 
 -- what was read of it is what its text is read as
 by_key : (rd : Bool) (a : s.Shape) (come : TreeFormat) (x : d.Data) (t : List ℕ) → reads come.reader.reject_duplicates a (scalar_at come) ≡ Some x → come.reader.reject_duplicates ≡ rd → come.part ≡ p.Key → tree_at come ≡ leaf (Text t false)
@@ -92,6 +95,8 @@ key_read rd key come x next t (signed_key {bits = bits} {z = z} h low high) e pl
     by_key rd (s.Shape.signed bits) come x t (signed_of come.reader.reject_duplicates 128 bits (scalar_at come) z (λ n same _. omega (arith, ints)) (λ n same _. omega (arith, ints)) (h.1 plain)) e part is
 key_read rd key come x next t (character_key h) e plain part is = by_key rd s.Shape.character come x t h.1 e part is
 key_read rd key come x next t (text_key h) e plain part is = by_key rd s.Shape.text come x t h.1 e part is
+key_read rd key come x next t (variant_key names at {keys = keys} {key = name} h named this) e plain part is =
+    named_key names keys t false at name named (subst (λ u. LooksUp u names at) (ap (λ q. scalar_of q (tree_at come)) part ∙ is) h.0) this
 
 -- where its value is
 pub value_ready : (old come next : TreeFormat) → Moves (count_of old) old come → IsNext come next → next.is_tried ≡ false → IsReady next

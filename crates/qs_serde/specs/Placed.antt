@@ -11,7 +11,8 @@ use Rattle.qs_serde.specs.declared.writing.frame.Next.TheVariants.{Nothing}
 use Rattle.qs_serde.specs.declared.writing.halt.Halt.{Halt}
 use Rattle.qs_serde.specs.declared.writing.halt.Halt.TheVariants.{Stopped}
 use Rattle.qs_serde.specs.declared.writing.position.Position.{Position}
-use Rattle.qs_serde.specs.Sent.{Level, State, path_of, path_at}
+use Rattle.serde.specs.Event.{Event}
+use Rattle.qs_serde.specs.Sent.{Level, State, path_of, path_at, sent}
 
 -- nothing was written
 abbrev pub blank : StreamState
@@ -74,3 +75,7 @@ Goes step result old new = (config : Config) (s : State) → Stands config old s
 -- the same after an error, too
 abbrev pub Moves : (Config → State → Option State) → Result (Unit {0}) Halt → Position → Position → Type 0
 Moves step result old new = (config : Config) (s : State) → IsIn config old s → Arrives (step config s) result config s.entries new
+
+-- an event was sent in this way
+pub record IsSent (e : Event) (result : Result (Unit {0}) Halt) (old new : Position) : Type 0 where
+  pub moves : Moves (λ config. sent config e) result old new

@@ -1,18 +1,20 @@
 -- The steps by which serde's impls and derives read a value, and what they gave. Each constructor is a shape, with what the public clauses of
 -- its steps say.
-use Rattle.std.specs.Prelude.{◌≡◌, ◌⊎◌, ◌↔◌, ◌<◌, ◌≤◌, ◌==◌, ◌^◌, ◌-◌, ◌≤ℤ◌, ⊤, ℤ, pos, neg_ℤ, ℕ, zero, suc, Bool, true, false, cond, List, [], ◌∷◌, length, Option, Some, None, option_and_then, IsSome}
+use Rattle.std.specs.Prelude.{◌≡◌, ◌⊎◌, ◌↔◌, ◌<◌, ◌≤◌, ◌==◌, ◌^◌, ◌-◌, ◌≤ℤ◌, ⊤, ℤ, pos, neg_ℤ, ℕ, zero, suc, Bool, true, false, cond, List, [], ◌∷◌, length, slice_get, Option, Some, None, option_and_then, IsSome}
 use Rattle.qs_spec.specs.Leaf.Leaf.{NoValue, Null}
 use Rattle.qs_spec.specs.Tree.Tree.{leaf}
-use Rattle.qs_spec.specs.internal.ReadFunction.{with_field}
+use Rattle.qs_spec.specs.internal.ReadFunction.{is_unit_kind, with_field}
 use Rattle.serde.specs.Spelling.{spelled}
 use Rattle.serde.specs.declared.name.Name.{Name}
+use Rattle.serde.specs.declared.format.Kind.TheVariants as kind
 use Rattle.qs_serde.specs.declared.reading.frame.FrameKind.TheVariants as k
 use Rattle.qs_spec.specs.Data as d
 use Rattle.qs_spec.specs.Shape as s
 use Rattle.qs_tree.specs.tree.Views.{tree_of}
 use Rattle.serde.specs.Event as e
 use Rattle.qs_serde.specs.Places.{count_of, is_tried_part, opens, tree_at, value_part}
-use Rattle.qs_serde.specs.Steps.{Begins, BeginsMap, Comes, EntryComes, EntryIs, HasNoEntry, HasNoItem, IsPlain, Leaves, LooksInside, Reads, Takes, next_struct}
+use Rattle.qs_serde.specs.Steps.{Begins, BeginsMap, Comes, EntryComes, EntryIs, FieldComes, HasNoEntry, HasNoItem, HasNoName, IsPlain, Leaves, Looks, LooksInside, Picks, Reads, Takes, field_of, next_kind, next_struct}
+use Rattle.qs_serde.specs.Tries.{picked_part, settled}
 use Rattle.qs_serde.specs.declared.reading.node.Node.{Node}
 use Rattle.qs_serde.specs.declared.reading.node.Part.TheVariants as p
 use Rattle.qs_serde.specs.declared.reading.format.TreeFormat.{TreeFormat}
@@ -36,16 +38,35 @@ pub record IsLevel (old new : TreeFormat) : Type 0 where
   pub reader : new.reader ≡ old.reader
   pub direct : IsDirect old → IsDirect new
 
--- the names of a derived struct are those of the fields, without aliases
+-- a name that a derive requests is this one, without aliases
+abbrev pub IsOnly : Name → List ℕ → Type 0
+IsOnly n name = (n.skipped ≡ false) × (n.aliases.now ≡ []) × (spelled n.case n.kind n.name.now ≡ name)
+
+-- those of a struct are those of the fields; of an enum, of the variants; of a map's keys, of the unit variants
 abbrev pub AreNamed : List Name → s.Fields → Type 0
 AreNamed [] s.no_fields = ⊤
-AreNamed (n ∷ ns) (s.one_field name a optional fs) = (n.skipped ≡ false) × (n.aliases.now ≡ []) × (spelled n.case n.kind n.name.now ≡ name) × AreNamed ns fs
+AreNamed (n ∷ ns) (s.one_field name a optional fs) = IsOnly n name × AreNamed ns fs
 AreNamed _ _ = ⊥
+
+abbrev pub AreVariants : List Name → s.Variants → Type 0
+AreVariants [] s.no_variants = ⊤
+AreVariants (n ∷ ns) (s.one_variant name held vs) = IsOnly n name × AreVariants ns vs
+AreVariants _ _ = ⊥
+
+abbrev pub AreKeys : List Name → List (List ℕ) → Type 0
+AreKeys [] [] = ⊤
+AreKeys (n ∷ ns) (key ∷ keys) = IsOnly n key × AreKeys ns keys
+AreKeys _ _ = ⊥
 
 abbrev pub field_at : s.Fields → ℕ → Option s.Field
 field_at s.no_fields k = None
 field_at (s.one_field name a optional fs) zero = Some (name, a, optional)
 field_at (s.one_field name a optional fs) (suc k) = field_at fs k
+
+abbrev pub variant_at : s.Variants → ℕ → Option s.Variant
+variant_at s.no_variants k = None
+variant_at (s.one_variant name held vs) zero = Some (name, held)
+variant_at (s.one_variant name held vs) (suc k) = variant_at vs k
 
 -- what was read of the field at an index; then its value, or what it has if it is missing; then all fields
 abbrev pub read_of : ℕ → List (ℕ × d.Data) → List d.Data
@@ -68,9 +89,11 @@ pub data KeyRun : s.KeyShape → TreeFormat → d.Data → TreeFormat → Type 0
   signed_key : {old new : TreeFormat} {bits : ℕ} {z : ℤ} → Reads old (e.signed z) new → neg_ℤ (pos (2 ^ (bits - 1))) ≤ℤ z → z ≤ℤ pos (2 ^ (bits - 1) - 1) → KeyRun (s.KeyShape.signed bits) old (d.signed z) new
   character_key : {old new : TreeFormat} {c : ℕ} → Reads old (e.character c) new → KeyRun s.KeyShape.character old (d.character c) new
   text_key : {old new : TreeFormat} {t : List ℕ} → Reads old (e.text t) new → KeyRun s.KeyShape.text old (d.text t) new
+  variant_key : (names : List Name) (at : ℕ) {keys : List (List ℕ)} {old new : TreeFormat} {key : List ℕ} → Picks old false names at new → AreKeys names keys → slice_get keys at ≡ Some key → KeyRun (s.KeyShape.variants keys) old (d.unit_variant key) new
 
 mutual
   pub data Run : s.Shape → TreeFormat → d.Data → TreeFormat → Type 0 where
+    unit_run : {old new : TreeFormat} → ¬ (old.part ≡ p.Held) → Reads old e.nothing new → Run s.Shape.unit old d.unit new
     boolean_run : {old new : TreeFormat} {b : Bool} → Reads old (e.boolean b) new → Run s.Shape.boolean old (d.boolean b) new
     unsigned_run : {old new : TreeFormat} {bits m : ℕ} → Reads old (e.unsigned m) new → m < 2 ^ bits → Run (s.Shape.unsigned bits) old (d.unsigned m) new
     signed_run : {old new : TreeFormat} {bits : ℕ} {z : ℤ} → Reads old (e.signed z) new → neg_ℤ (pos (2 ^ (bits - 1))) ≤ℤ z → z ≤ℤ pos (2 ^ (bits - 1) - 1) → Run (s.Shape.signed bits) old (d.signed z) new
@@ -86,6 +109,27 @@ mutual
     struct_run : {unknown : s.UnknownKeys} {names : List Name} {fs : s.Fields} {old first new : TreeFormat} {ms : List (ℕ × d.Data)} {named : List d.Named}
         → Begins old k.Fields first → next_struct old ≡ Some k.Fields → AreNamed names fs → s.field_names_differ fs ≡ true → MembersRun unknown names fs first ms new
         → collected 0 fs ms ≡ Some named → Run (s.Shape.struct unknown fs) old (d.struct (d.members_of named)) new
+    places_run : {unknown : s.UnknownKeys} {names : List Name} {fs : s.Fields} {old first new : TreeFormat} {named : List d.Named}
+        → Begins old k.Places first → next_struct old ≡ Some k.Places → AreNamed names fs → PlacesRun names fs first named new → Run (s.Shape.struct unknown fs) old (d.struct (d.members_of named)) new
+    name_run : (names : List Name) (at : ℕ) {vs : s.Variants} {old looked new : TreeFormat} {v : s.Variant}
+        → Looks old looked → next_kind old ≡ Some kind.Str → Picks looked false names at new → AreVariants names vs → variant_at vs at ≡ Some v → is_unit_kind v.1 ≡ true → Run (s.Shape.enumeration vs) old (d.unit_variant v.0) new
+    variant_run : {vs : s.Variants} {names : List Name} {old looked first come read new : TreeFormat} {at : ℕ} {v : s.Variant} {x : d.Data}
+        → Looks old looked → ¬ (next_kind old ≡ Some kind.Str) → BeginsMap looked first → EntryIs 0 names at (picked_part names first) (settled names first) come → AreVariants names vs → variant_at vs at ≡ Some v
+        → ContentRun v.1 v.0 come x read → Leaves read new → Run (s.Shape.enumeration vs) old x new
+
+  -- what a variant holds is read
+  pub data ContentRun : s.VariantKind → List ℕ → TreeFormat → d.Data → TreeFormat → Type 0 where
+    unit_content : {name : List ℕ} {old new : TreeFormat} → Reads old e.nothing new → ContentRun s.unit_kind name old (d.unit_variant name) new
+    newtype_content : {a : s.Shape} {name : List ℕ} {old new : TreeFormat} {x : d.Data} → Run a old x new → ContentRun (s.newtype_kind a) name old (d.newtype_variant name x) new
+    tuple_content : {parts : s.Shapes} {name : List ℕ} {old new : TreeFormat} {xs : d.Values} → Run (s.Shape.tuple parts) old (d.tuple xs) new → ContentRun (s.tuple_kind parts) name old (d.tuple_variant name xs) new
+    struct_content : {unknown : s.UnknownKeys} {fs : s.Fields} {name : List ℕ} {old new : TreeFormat} {ms : d.Members}
+        → Run (s.Shape.struct unknown fs) old (d.struct ms) new → ContentRun (s.struct_kind unknown fs) name old (d.struct_variant name ms) new
+
+  -- an item comes for each field, and the further ones are left
+  pub data PlacesRun : List Name → s.Fields → TreeFormat → List d.Named → TreeFormat → Type 0 where
+    no_place : {names : List Name} {fs : s.Fields} {old new : TreeFormat} → HasNoName names (field_of old) → Leaves old new → PlacesRun names fs old [] new
+    one_place : {names : List Name} {fs : s.Fields} {old come read new : TreeFormat} {at : ℕ} {f : s.Field} {x : d.Data} {rest : List d.Named}
+        → FieldComes names at old come → field_at fs at ≡ Some f → Run f.1 come x read → PlacesRun names fs read rest new → PlacesRun names fs old ((f.0, x) ∷ rest) new
 
   -- each item comes and is read, until none is left
   pub data ItemsRun : s.Shape → TreeFormat → List d.Data → TreeFormat → Type 0 where

@@ -287,11 +287,12 @@ pub record EntryIs (i : ℕ) (names : List Name) (at : ℕ) (q : Part) (old new 
   pub moves : Moves i old new
 
 -- the field of the next item of a list that is read as a struct
+abbrev pub next_field : Option Frame → ℕ
+next_field None = 0
+next_field (Some frame) = frame.field
+
 abbrev pub field_of : TreeFormat → ℕ
-field_of f = next_field f.frame where
-  next_field : Option Frame → ℕ
-  next_field None = 0
-  next_field (Some frame) = frame.field
+field_of f = next_field f.frame
 
 -- the first name, from an index on, that isn't skipped
 pub record IsNextName (names : List Name) (from at : ℕ) : Type 0 where

@@ -1,5 +1,5 @@
 -- Which marks are those of untagged enums, whose variants have to read all of a node.
-use Rattle.std.specs.Prelude.{ℕ, ◌==◌, Bool, true, false, not, ◌&&◌, ◌||◌, cond, List, length}
+use Rattle.std.specs.Prelude.{◌==◌, Bool, true, false, not, ◌&&◌, ◌||◌, cond, List, length}
 use Rattle.std.specs.List.{list_any}
 use Rattle.serde.specs.declared.name.Name.{Name}
 use Rattle.qs_tree.specs.tree.Views.{tree_of}

@@ -113,11 +113,9 @@ impl<'t, 'qs> TreeFormat<'t, 'qs> {
         let depth = self.depth();
         match found {
             Some(at) => match names.get(at) {
-                Some(name) => self.clues.note(
-                    self.reader.alloc,
-                    depth.saturating_sub(1),
-                    name,
-                ),
+                Some(name) => self
+                    .clues
+                    .note(self.reader.alloc, depth.saturating_sub(1), name),
                 None => Ok(()),
             },
             None => self.clues.note_all(self.reader.alloc, depth, names),

@@ -100,7 +100,11 @@ fn append_name(path: &mut String, name: &[u8]) -> Result<(), AllocError> {
 
 // Appends a dot if the path isn't empty.
 fn append_dot(path: &mut String) -> Result<(), AllocError> {
-    if path.is_empty() { Ok(()) } else { path.push('.') }
+    if path.is_empty() {
+        Ok(())
+    } else {
+        path.push('.')
+    }
 }
 
 // Appends bytes as text, with U+FFFD for each run of bytes that isn't UTF-8.

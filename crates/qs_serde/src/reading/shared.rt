@@ -23,11 +23,7 @@ use serde::Name;
 impl<'t, 'qs> TreeFormat<'t, 'qs> {
     /// Goes to the next entry of a map that names a variant or is shared, and returns the index of the name that its key matches. At the
     /// end of an enum there are no names: its map ends, and the other keys are passed over, unless all has to be read.
-    pub(crate) fn go_to_shared(
-        &mut self,
-        names: &[Name<'_>],
-        frame: Frame,
-    ) -> Result<Option<usize>>
+    pub(crate) fn go_to_shared(&mut self, names: &[Name<'_>], frame: Frame) -> Result<Option<usize>>
         ensures some { kind_of self.old ≡ Some frame.kind → count_of self.old ≡ frame.next → IfOk result (λ o. IfSome o (λ at. EntryIs frame.next names.now at (picked_part names.now self.old) (settled names.now self.old) self.new)) }
         ensures none { IfOk result (λ o. IfNone o (Leaves self.old self.new)) }
         ensures end { count_of self.old ≡ frame.next → IfOk result (λ o. IfNone o (((names.now ≡ []) × ((settled names.now self.old).is_tried ≡ false)) ⊎ (slice_get (pairs_in (tree_of self.old.top.now)) frame.next ≡ None))) }

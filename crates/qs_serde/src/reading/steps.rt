@@ -163,21 +163,7 @@ impl<'t, 'qs> Format for TreeFormat<'t, 'qs> {
         ensures looks { Looks self.old self.new }
         ensures kind { ReadGives (λ k. k) true result (next_kind self.old) }
     {
-        if self.part == Part::Key {
-            return Ok(Kind::Str);
-        }
-        self.asked = Asked::Kind;
-        match self.part {
-            Part::Key => Ok(Kind::Str),
-            Part::NoValue | Part::Nothing => Ok(Kind::Unit),
-            Part::Value | Part::Held | Part::Whole => match self.node {
-                ParsedValue::Uninitialized => Err(self.error(self.reader.nothing())),
-                ParsedValue::Null | ParsedValue::NoValue => Ok(Kind::Unit),
-                ParsedValue::String(_) => Ok(Kind::Str),
-                ParsedValue::Sequence(_) => Ok(Kind::Seq),
-                ParsedValue::Map(_) => Ok(Kind::Map),
-            },
-        }
+        self.look()
     }
 
     // What a unit variant holds is passed over.
@@ -195,32 +181,13 @@ impl<'t, 'qs> Format for TreeFormat<'t, 'qs> {
         }
     }
 
-    // An empty value is `Some` of what is read from no value.
-    #[tactic(auto, using(crate::proofs::Errors::step_errors), unfolding(qs_spec::specs::internal::ReadFunction::reads))]
     fn take_none(&mut self, _input: &[u8]) -> Result<bool>
         ensures step { IfOk result (λ b. MatchBool b (Reads self.old nothing self.new) (Stays self.old self.new)) }
         ensures none { IfOk result (λ b. IsTrue b ↔ (tree_at self.old ≡ leaf NoValue)) }
         ensures some { IfOk result (λ b. MatchBool b (self.new ≡ self.old) (LooksInside self.old self.new)) }
         ensures errors { IfErr result (λ e. IsStepError true e × ((self.new ≡ self.old) × (tree_at self.old ≡ uninitialized))) }
     {
-        match self.part {
-            Part::NoValue | Part::Nothing => Ok(true),
-            Part::Key => Ok(false),
-            Part::Value | Part::Held => match self.node {
-                ParsedValue::NoValue => Ok(true),
-                ParsedValue::Null => {
-                    self.part = Part::NoValue;
-                    Ok(false)
-                }
-                ParsedValue::Uninitialized => Err(self.error(self.reader.nothing())),
-                _ => Ok(false),
-            },
-            Part::Whole => match self.node {
-                ParsedValue::NoValue => Ok(true),
-                ParsedValue::Uninitialized => Err(self.error(self.reader.nothing())),
-                _ => Ok(false),
-            },
-        }
+        self.look_for_none()
     }
 
     #[tactic(auto, using(crate::proofs::Errors::begin_errors, crate::proofs::Places::has_items))]
@@ -363,42 +330,13 @@ impl<'t, 'qs> Format for TreeFormat<'t, 'qs> {
         ensures mark { IsMark result self.old }
         ensures marked { self.new ≡ marked self.old }
     {
-        let mark = Mark {
-            depth: self.around.len(),
-            frame: self.frame,
-            top: self.top,
-            node: self.node,
-            part: self.part,
-            is_tried: self.is_tried,
-            is_try: matches!(self.asked, Asked::Kind),
-        };
-        self.asked = match self.asked {
-            Asked::Kind => Asked::Marked(self.is_tried),
-            Asked::Marked(outer) => Asked::MarkedTwice(outer),
-            _ => Asked::Tried,
-        };
-        if mark.is_try {
-            self.is_tried = true;
-            self.part = mark.part.whole();
-        }
-        mark
+        self.mark_here()
     }
 
-    #[tactic(auto, using(crate::proofs::Places::comes_back))]
     fn rewind(&mut self, mark: Mark<'t, 'qs>)
         ensures { ComesBack mark.entry self.old self.new }
     {
-        self.around.truncate(mark.depth);
-        self.frame = mark.frame;
-        self.top = mark.top;
-        self.node = mark.node;
-        self.is_tried = self.is_tried && (mark.is_tried || mark.is_try);
-        self.part = if self.is_tried {
-            mark.part.whole()
-        } else {
-            mark.part
-        };
-        self.asked = Asked::Tried;
+        self.go_back(mark);
     }
 
     fn release(&mut self, mark: Mark<'t, 'qs>)

@@ -1,12 +1,12 @@
 //! What is kept of an event, and the texts that need a buffer.
 
-ghost use Rattle.std.specs.Prelude.{◌≡◌, ℕ, List, Option, OnErr, OnOk, IfSome};
+ghost use Rattle.std.specs.Prelude.{◌≡◌, ℕ, List, OnErr, OnOk, IfSome};
 ghost use Rattle.qs_spec.specs.Config.{Config as Settings};
 ghost use Rattle.serde.specs.Event.{Event, Logs};
 ghost use Rattle.serde.specs.Spelling.{spelled};
 ghost use Rattle.serde.specs.declared.name.NameKind.TheVariants.{Variant};
-ghost use Rattle.qs_serde.specs.Sent.{State, key_sent, sent, text_sent};
-ghost use Rattle.qs_serde.specs.Placed.{Moves};
+ghost use Rattle.qs_serde.specs.Sent.{key_sent, sent, text_sent};
+ghost use Rattle.qs_serde.specs.Placed.{Moves, IsSent};
 ghost use Rattle.qs_serde.specs.Noted.{IsNoted, event_of};
 ghost use Rattle.qs_serde.specs.Noted.{Follows};
 ghost use Rattle.qs_serde.specs.declared.writing.frame.Next.TheVariants.{Nothing};
@@ -31,7 +31,7 @@ pub(crate) fn keep(
 ) -> Result<(), Halt>
     ensures logs { OnOk result (IfSome (event_of note.now) (λ e. Logs log.old.events log.new.events e)) }
     ensures kept { OnErr result ((log.new.events ≡ log.old.events) × (position.new.next ≡ Nothing)) }
-    ensures goes { (step : Settings → State → Option State) (before : At) → Moves step made before position.old → Moves step result before position.new }
+    ensures sends { (before : At) (e : Event) → Moves (λ config. sent config e) made before position.old → IsSent e result before position.new }
     ensures follows { (config : Settings) (before : At) (e : Event) → IsNoted note.now e → Moves (λ config. sent config e) made before position.old
         → Follows config log.old.events before → Follows config log.new.events position.new }
 {

@@ -1,10 +1,9 @@
 //! The events that serde sends.
 
-ghost use Rattle.std.specs.Prelude.{ℕ, List};
-ghost use Rattle.serde.specs.Event.{boolean, signed, unsigned, character, text, octets, nothing, unit_variant, seq_begins, seq_ends, map_begins, map_ends, field_key, variant_key, key_begins, key_ends, flattens};
+ghost use Rattle.std.specs.Prelude.{ℕ, List, OnOk};
+ghost use Rattle.serde.specs.Event.{Logs, boolean, signed, unsigned, single, double, character, text, octets, nothing, unit_variant, seq_begins, seq_ends, map_begins, map_ends, field_key, variant_key, key_begins, key_ends, flattens};
 ghost use Rattle.qs_serde.specs.Halts.{IsHaltSaying};
-ghost use Rattle.qs_serde.specs.Placed.{Moves};
-ghost use Rattle.qs_serde.specs.Sent.{sent, text_sent};
+ghost use Rattle.qs_serde.specs.Placed.{IsSent};
 
 use super::halt::Halt;
 use super::log::Note;
@@ -21,28 +20,32 @@ impl<K: Settings> Serializer for TextSerializer<K> {
     ghost written = { λ s. s.log.events };
 
     fn bool(&mut self, v: bool) -> Result<(), Halt>
-        ensures { Moves (λ config. sent config (boolean v)) result self.old.position self.new.position }
+        ensures logs { OnOk result (Logs self.old.log.events self.new.log.events (boolean v)) }
+        ensures sent { IsSent (boolean v) result self.old.position self.new.position }
     {
         let made = self.position.scalar(Scalar::Bool(v));
         keep(&mut self.position, &mut self.log, made, &Note::Bool(v))
     }
 
     fn i64(&mut self, v: i64) -> Result<(), Halt>
-        ensures { Moves (λ config. sent config (signed v)) result self.old.position self.new.position }
+        ensures logs { OnOk result (Logs self.old.log.events self.new.log.events (signed v)) }
+        ensures sent { IsSent (signed v) result self.old.position self.new.position }
     {
         let made = self.position.scalar(Scalar::Signed(v));
         keep(&mut self.position, &mut self.log, made, &Note::I64(v))
     }
 
     fn u64(&mut self, v: u64) -> Result<(), Halt>
-        ensures { Moves (λ config. sent config (unsigned v)) result self.old.position self.new.position }
+        ensures logs { OnOk result (Logs self.old.log.events self.new.log.events (unsigned v)) }
+        ensures sent { IsSent (unsigned v) result self.old.position self.new.position }
     {
         let made = self.position.scalar(Scalar::Unsigned(v));
         keep(&mut self.position, &mut self.log, made, &Note::U64(v))
     }
 
     fn i128(&mut self, v: i128) -> Result<(), Halt>
-        ensures { Moves (λ config. sent config (signed v)) result self.old.position self.new.position }
+        ensures logs { OnOk result (Logs self.old.log.events self.new.log.events (signed v)) }
+        ensures sent { IsSent (signed v) result self.old.position self.new.position }
     {
         let made = self
             .position
@@ -51,7 +54,8 @@ impl<K: Settings> Serializer for TextSerializer<K> {
     }
 
     fn u128(&mut self, v: u128) -> Result<(), Halt>
-        ensures { Moves (λ config. sent config (unsigned v)) result self.old.position self.new.position }
+        ensures logs { OnOk result (Logs self.old.log.events self.new.log.events (unsigned v)) }
+        ensures sent { IsSent (unsigned v) result self.old.position self.new.position }
     {
         let made = self
             .position
@@ -60,35 +64,40 @@ impl<K: Settings> Serializer for TextSerializer<K> {
     }
 
     fn f32(&mut self, v: f32) -> Result<(), Halt>
-        ensures { (bytes : List ℕ) × Moves (λ config s. text_sent config bytes s) result self.old.position self.new.position }
+        ensures logs { OnOk result (Logs self.old.log.events self.new.log.events (single v)) }
+        ensures sent { (bytes : List ℕ) × IsSent (text bytes) result self.old.position self.new.position }
     {
         let made = float(&mut self.position, v);
         keep(&mut self.position, &mut self.log, made, &Note::Single(v))
     }
 
     fn f64(&mut self, v: f64) -> Result<(), Halt>
-        ensures { (bytes : List ℕ) × Moves (λ config s. text_sent config bytes s) result self.old.position self.new.position }
+        ensures logs { OnOk result (Logs self.old.log.events self.new.log.events (double v)) }
+        ensures sent { (bytes : List ℕ) × IsSent (text bytes) result self.old.position self.new.position }
     {
         let made = float(&mut self.position, v);
         keep(&mut self.position, &mut self.log, made, &Note::Double(v))
     }
 
     fn char(&mut self, v: char) -> Result<(), Halt>
-        ensures { Moves (λ config. sent config (character v)) result self.old.position self.new.position }
+        ensures logs { OnOk result (Logs self.old.log.events self.new.log.events (character v)) }
+        ensures sent { IsSent (character v) result self.old.position self.new.position }
     {
         let made = self.position.scalar(Scalar::Char(v));
         keep(&mut self.position, &mut self.log, made, &Note::Char(v))
     }
 
     fn str(&mut self, v: &str) -> Result<(), Halt>
-        ensures { Moves (λ config. sent config (text v.now)) result self.old.position self.new.position }
+        ensures logs { OnOk result (Logs self.old.log.events self.new.log.events (text v.now)) }
+        ensures sent { IsSent (text v.now) result self.old.position self.new.position }
     {
         let made = self.position.scalar(Scalar::Bytes(v.as_bytes()));
         keep(&mut self.position, &mut self.log, made, &Note::Text(v))
     }
 
     fn bytes(&mut self, v: &[u8]) -> Result<(), Halt>
-        ensures { Moves (λ config. sent config (octets v.now)) result self.old.position self.new.position }
+        ensures logs { OnOk result (Logs self.old.log.events self.new.log.events (octets v.now)) }
+        ensures sent { IsSent (octets v.now) result self.old.position self.new.position }
     {
         let made = self.position.scalar(Scalar::Bytes(v));
         keep(&mut self.position, &mut self.log, made, &Note::Bytes(v))
@@ -96,14 +105,16 @@ impl<K: Settings> Serializer for TextSerializer<K> {
 
     // serde sends the same event for `None` and `()`. Both are written as no value.
     fn unit(&mut self) -> Result<(), Halt>
-        ensures { Moves (λ config. sent config nothing) result self.old.position self.new.position }
+        ensures logs { OnOk result (Logs self.old.log.events self.new.log.events nothing) }
+        ensures sent { IsSent nothing result self.old.position self.new.position }
     {
         let made = self.position.nothing();
         keep(&mut self.position, &mut self.log, made, &Note::Unit)
     }
 
     fn str_cased(&mut self, name: &str, case: Case) -> Result<(), Halt>
-        ensures { Moves (λ config. sent config (unit_variant name.now case)) result self.old.position self.new.position }
+        ensures logs { OnOk result (Logs self.old.log.events self.new.log.events (unit_variant name.now case)) }
+        ensures sent { IsSent (unit_variant name.now case) result self.old.position self.new.position }
     {
         let made = variant(&mut self.position, &mut self.room, name, case);
         keep(
@@ -115,7 +126,8 @@ impl<K: Settings> Serializer for TextSerializer<K> {
     }
 
     fn begin_seq(&mut self, len: Option<usize>) -> Result<(), Halt>
-        ensures { Moves (λ config. sent config (seq_begins len)) result self.old.position self.new.position }
+        ensures logs { OnOk result (Logs self.old.log.events self.new.log.events (seq_begins len)) }
+        ensures sent { IsSent (seq_begins len) result self.old.position self.new.position }
     {
         let made = self.position.begin_seq();
         keep(
@@ -127,14 +139,16 @@ impl<K: Settings> Serializer for TextSerializer<K> {
     }
 
     fn end_seq(&mut self) -> Result<(), Halt>
-        ensures { Moves (λ config. sent config seq_ends) result self.old.position self.new.position }
+        ensures logs { OnOk result (Logs self.old.log.events self.new.log.events seq_ends) }
+        ensures sent { IsSent seq_ends result self.old.position self.new.position }
     {
         let made = self.position.end_seq();
         keep(&mut self.position, &mut self.log, made, &Note::EndSeq)
     }
 
     fn begin_map(&mut self, len: Option<usize>) -> Result<(), Halt>
-        ensures { Moves (λ config. sent config (map_begins len)) result self.old.position self.new.position }
+        ensures logs { OnOk result (Logs self.old.log.events self.new.log.events (map_begins len)) }
+        ensures sent { IsSent (map_begins len) result self.old.position self.new.position }
     {
         let made = self.position.begin_map();
         keep(
@@ -146,14 +160,16 @@ impl<K: Settings> Serializer for TextSerializer<K> {
     }
 
     fn end_map(&mut self) -> Result<(), Halt>
-        ensures { Moves (λ config. sent config map_ends) result self.old.position self.new.position }
+        ensures logs { OnOk result (Logs self.old.log.events self.new.log.events map_ends) }
+        ensures sent { IsSent map_ends result self.old.position self.new.position }
     {
         let made = self.position.end_map();
         keep(&mut self.position, &mut self.log, made, &Note::EndMap)
     }
 
     fn key_cased(&mut self, name: &str, case: Case) -> Result<(), Halt>
-        ensures { Moves (λ config. sent config (field_key name.now case)) result self.old.position self.new.position }
+        ensures logs { OnOk result (Logs self.old.log.events self.new.log.events (field_key name.now case)) }
+        ensures sent { IsSent (field_key name.now case) result self.old.position self.new.position }
     {
         let made = key(
             &mut self.position,
@@ -171,7 +187,8 @@ impl<K: Settings> Serializer for TextSerializer<K> {
     }
 
     fn variant_key(&mut self, name: &str, case: Case) -> Result<(), Halt>
-        ensures { Moves (λ config. sent config (variant_key name.now case)) result self.old.position self.new.position }
+        ensures logs { OnOk result (Logs self.old.log.events self.new.log.events (variant_key name.now case)) }
+        ensures sent { IsSent (variant_key name.now case) result self.old.position self.new.position }
     {
         let made = key(
             &mut self.position,
@@ -189,21 +206,24 @@ impl<K: Settings> Serializer for TextSerializer<K> {
     }
 
     fn begin_key(&mut self) -> Result<(), Halt>
-        ensures { Moves (λ config. sent config key_begins) result self.old.position self.new.position }
+        ensures logs { OnOk result (Logs self.old.log.events self.new.log.events key_begins) }
+        ensures sent { IsSent key_begins result self.old.position self.new.position }
     {
         let made = self.position.begin_key();
         keep(&mut self.position, &mut self.log, made, &Note::BeginKey)
     }
 
     fn end_key(&mut self) -> Result<(), Halt>
-        ensures { Moves (λ config. sent config key_ends) result self.old.position self.new.position }
+        ensures logs { OnOk result (Logs self.old.log.events self.new.log.events key_ends) }
+        ensures sent { IsSent key_ends result self.old.position self.new.position }
     {
         let made = self.position.end_key();
         keep(&mut self.position, &mut self.log, made, &Note::EndKey)
     }
 
     fn flatten_next(&mut self) -> Result<(), Halt>
-        ensures { Moves (λ config. sent config flattens) result self.old.position self.new.position }
+        ensures logs { OnOk result (Logs self.old.log.events self.new.log.events flattens) }
+        ensures sent { IsSent flattens result self.old.position self.new.position }
     {
         let made = self.position.flatten();
         keep(&mut self.position, &mut self.log, made, &Note::Flatten)
@@ -216,7 +236,7 @@ impl<K: Settings> Serializer for TextSerializer<K> {
     }
 
     fn collect_str<T: Display>(&mut self, value: &T) -> Result<(), Halt>
-        ensures { (bytes : List ℕ) × Moves (λ config s. text_sent config bytes s) result self.old.position self.new.position }
+        ensures { (bytes : List ℕ) × IsSent (text bytes) result self.old.position self.new.position }
     {
         let made = printed(&mut self.position, &mut self.room, value);
         keep(&mut self.position, &mut self.log, made, &Note::Printed)

@@ -16,8 +16,8 @@ returns-in-Err-clause-follows c config before e shown moves follows =
     let now = c.args.position.now in
     follows_stop config c.args.log.now.events before now e c.in-Err.halt (subst (λ r. Moves (λ config. sent config e) r before now) c.in-Err.is moves) follows
 
-pub returns-in-Ok-clause-goes : goal.returns-in-Ok-clause-goes
-returns-in-Ok-clause-goes c step before moves = subst (λ r. Moves step r before c.args.position.now) c.in-Ok.is moves
+pub returns-in-Ok-clause-sends : goal.returns-in-Ok-clause-sends
+returns-in-Ok-clause-sends c before e moves = record { moves = subst (λ r. Moves (λ config. sent config e) r before c.args.position.now) c.in-Ok.is moves }
 
-pub returns-in-Err-clause-goes : goal.returns-in-Err-clause-goes
-returns-in-Err-clause-goes c step before moves = subst (λ r. Moves step r before c.args.position.now) c.in-Err.is moves
+pub returns-in-Err-clause-sends : goal.returns-in-Err-clause-sends
+returns-in-Err-clause-sends c before e moves = record { moves = subst (λ r. Moves (λ config. sent config e) r before c.args.position.now) c.in-Err.is moves }

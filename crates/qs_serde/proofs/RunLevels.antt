@@ -1,5 +1,5 @@
 -- Where a format is while a value is read: the open lists and maps, and the item that is next.
-use Rattle.std.proofs.Common.{◌≡◌, ◌⊎◌, ◌↔◌, inl, inr, ℕ, suc, ◌+◌, ◌-◌, ◌<◌, ◌++◌, Bool, true, false, List, [], ◌∷◌, length, drop, Option, Some, None, IsSome, option_to_list, refl, sym, ap, subst, ◌∙◌, arith}
+use Rattle.std.proofs.Common.{◌≡◌, ◌⊎◌, ◌↔◌, inl, inr, ℕ, suc, ◌+◌, ◌-◌, ◌<◌, ◌&&◌, ◌++◌, cond, Bool, true, false, List, [], ◌∷◌, length, drop, Option, Some, None, IsSome, option_to_list, refl, sym, ap, subst, ◌∙◌, arith}
 use Rattle.std.specs.Option.{option_map, option_and_then}
 use Rattle.std.specs.Borrow.{Bor}
 use Rattle.qs_spec.specs.Data as d
@@ -17,6 +17,7 @@ use Rattle.qs_serde.specs.Nodes.{key_tree, listed}
 use Rattle.qs_serde.specs.Places.{count_of, innermost, is_tried_part, opens, part_tree, part_view, passed, scalar_at, scalar_of, tree_at, value_part}
 use Rattle.qs_serde.specs.Runs.{IsDirect, IsLevel, IsReady}
 use Rattle.qs_serde.specs.Steps.{Begins, Comes, Empties, Keeps, Leaves, Looks, Moves, field_of, is_whole, items_at, next_field, next_items, node_at_part}
+use Rattle.qs_serde.specs.Tries.{asks_content, settled_try, tried_at_name}
 use Rattle.qs_serde.specs.declared.reading.frame.Frame.{Frame}
 use Rattle.qs_serde.specs.declared.reading.frame.Outer.{Outer}
 use Rattle.qs_serde.specs.declared.reading.frame.FrameKind.{FrameKind}
@@ -172,6 +173,24 @@ after_item old come read moves l =
 
 pub same_field : (come read : TreeFormat) → IsSome come.frame → IsLevel come read → field_of read ≡ field_of come
 same_field come read some l = ap next_field (same_open read.around.items come.around.items read.top come.top read.frame come.frame l.opened (l.open_as.1 some) some).1
+
+-- where no variant of an untagged enum is tried, none is after a mark that wasn't one's, either
+pub untried : (f : TreeFormat) → f.is_tried ≡ false → settled_try f ≡ false
+untried f h = go f.was_tried refl where
+  both : (b c : Bool) → b ≡ false → (b && c) ≡ false
+  both true c h = absurd cc
+  both false c h = refl
+
+  go : (o : Option Bool) → f.was_tried ≡ o → settled_try f ≡ false
+  go None e = rw e h
+  go (Some b) e = rw e (both f.is_tried b h)
+
+pub either_false : (b t u : Bool) → t ≡ false → u ≡ false → cond b t u ≡ false
+either_false true t u h g = h
+either_false false t u h g = g
+
+pub name_untried : (f : TreeFormat) → f.is_tried ≡ false → tried_at_name f ≡ false
+name_untried f h = either_false (asks_content f.asked) (settled_try f) f.is_tried (untried f h) h
 
 -- a look at the kind of what is next leaves it
 pub looked_on : (old looked : TreeFormat) → Looks old looked → IsReady old → (tree_at looked ≡ tree_at old) × IsReady looked × IsLevel old looked

@@ -23,12 +23,13 @@ use Rattle.qs_serde.specs.Places.{count_of, is_tried_part, part_tree, part_view,
 use Rattle.qs_serde.specs.Runs.{IsLevel, IsReady, KeyRun}
 use Rattle.qs_serde.specs.Runs.KeyRun.{boolean_key, unsigned_key, signed_key, character_key, text_key, variant_key}
 use Rattle.qs_serde.specs.Steps.{HasParts, IsPlain, Moves, node_at_part, part_after}
+use Rattle.qs_serde.specs.Tries.{tried_at_name}
 use Rattle.qs_serde.specs.declared.reading.frame.FrameKind.TheVariants as k
 use Rattle.qs_serde.specs.declared.reading.node.Part.{Part}
 use Rattle.qs_serde.specs.declared.reading.node.Part.TheVariants as p
 use Rattle.qs_serde.specs.declared.reading.format.TreeFormat.{TreeFormat}
 use Rattle.qs_serde.proofs.ReadNumbers.{signed_of, unsigned_of}
-use Rattle.qs_serde.proofs.RunLevels.{AfterItem, counted_some, taken}
+use Rattle.qs_serde.proofs.RunLevels.{name_untried, AfterItem, counted_some, taken}
 use Rattle.qs_serde.proofs.RunFields.{after, after_some, entry_due}
 use Rattle.qs_serde.proofs.RunEnums.{named_key}
 
@@ -69,16 +70,16 @@ map_here key r p.Nothing node top at null t has is = absurd cc
 abbrev pub IsNext : TreeFormat → TreeFormat → Type 0
 IsNext come next = (next.part ≡ p.Value) × (next.node ≡ come.node) × IsLevel come next
 
-value_after : (come : TreeFormat) → come.part ≡ p.Key → come.is_tried ≡ false → part_after come.is_tried come.part ≡ p.Value
-value_after come is tried = ap (part_after come.is_tried) is ∙ ap value_part tried
+value_after : (b : Bool) (q : Part) → q ≡ p.Key → b ≡ false → part_after b q ≡ p.Value
+value_after b q is tried = ap (part_after b) is ∙ ap value_part tried
 
 pub key_next : (key : s.KeyShape) (come : TreeFormat) (x : d.Data) (next : TreeFormat) → KeyRun key come x next → come.part ≡ p.Key → come.is_tried ≡ false → IsNext come next
-key_next key come x next (boolean_key h) is tried = subst (IsNext come) (sym h.0) (value_after come is tried, refl, taken come _ refl refl refl refl (λ d. d))
-key_next key come x next (unsigned_key h lt) is tried = subst (IsNext come) (sym h.0) (value_after come is tried, refl, taken come _ refl refl refl refl (λ d. d))
-key_next key come x next (signed_key h low high) is tried = subst (IsNext come) (sym h.0) (value_after come is tried, refl, taken come _ refl refl refl refl (λ d. d))
-key_next key come x next (character_key h) is tried = subst (IsNext come) (sym h.0) (value_after come is tried, refl, taken come _ refl refl refl refl (λ d. d))
-key_next key come x next (text_key h) is tried = subst (IsNext come) (sym h.0) (value_after come is tried, refl, taken come _ refl refl refl refl (λ d. d))
-key_next key come x next (variant_key names at h named this) is tried = subst (IsNext come) (sym h.1) (value_after come is tried, refl, taken come _ refl refl refl refl (λ d. d))
+key_next key come x next (boolean_key h) is tried = subst (IsNext come) (sym h.0) (value_after come.is_tried come.part is tried, refl, taken come _ refl refl refl refl (λ d. d))
+key_next key come x next (unsigned_key h lt) is tried = subst (IsNext come) (sym h.0) (value_after come.is_tried come.part is tried, refl, taken come _ refl refl refl refl (λ d. d))
+key_next key come x next (signed_key h low high) is tried = subst (IsNext come) (sym h.0) (value_after come.is_tried come.part is tried, refl, taken come _ refl refl refl refl (λ d. d))
+key_next key come x next (character_key h) is tried = subst (IsNext come) (sym h.0) (value_after come.is_tried come.part is tried, refl, taken come _ refl refl refl refl (λ d. d))
+key_next key come x next (text_key h) is tried = subst (IsNext come) (sym h.0) (value_after come.is_tried come.part is tried, refl, taken come _ refl refl refl refl (λ d. d))
+key_next key come x next (variant_key names at h named this) is tried = subst (IsNext come) (sym h.1) (value_after (tried_at_name come) come.part is (name_untried come tried), refl, taken come _ refl refl refl refl (λ d. (d.0, name_untried come d.1)))
 
 -- what was read of it is what its text is read as
 by_key : (rd : Bool) (a : s.Shape) (come : TreeFormat) (x : d.Data) (t : List ℕ) → reads come.reader.reject_duplicates a (scalar_at come) ≡ Some x → come.reader.reject_duplicates ≡ rd → come.part ≡ p.Key → tree_at come ≡ leaf (Text t false)

@@ -29,14 +29,12 @@ use Rattle.qs_serde.specs.Runs.MembersRun.{no_member, one_member, other_member}
 use Rattle.qs_serde.specs.Runs.PairsRun.{no_pair, one_pair}
 use Rattle.qs_serde.specs.Runs.PartsRun.{no_part, one_part}
 use Rattle.qs_serde.specs.Steps.{IsPlain, Moves, field_of, is_whole, kind_of_node, next_field, node_at_part}
-use Rattle.qs_serde.specs.Tries.{is_first, is_tag, is_untried, settled, tried_after}
-use Rattle.qs_serde.specs.declared.reading.format.Asked.{Asked}
-use Rattle.qs_serde.specs.declared.reading.format.Asked.TheVariants as ask
+use Rattle.qs_serde.specs.Tries.{is_first, is_marked, is_shared, settled, settled_try, tried_after}
 use Rattle.qs_serde.specs.declared.reading.frame.FrameKind.TheVariants as k
 use Rattle.qs_serde.specs.declared.reading.node.Part.{Part}
 use Rattle.qs_serde.specs.declared.reading.node.Part.TheVariants as p
 use Rattle.qs_serde.specs.declared.reading.format.TreeFormat.{TreeFormat}
-use Rattle.qs_serde.proofs.RunLevels.{counted_some, looked_on, same_field, scalar_same, taken, on, in_tree, first_part, map_level, come_ready, come_tree, after_item, rest_of, one_more, IsLeft, left, left_after, Read, begun_items, item_got, empty_ready, some_full, some_empty}
+use Rattle.qs_serde.proofs.RunLevels.{either_false, name_untried, untried, counted_some, looked_on, same_field, scalar_same, taken, on, in_tree, first_part, map_level, come_ready, come_tree, after_item, rest_of, one_more, IsLeft, left, left_after, Read, begun_items, item_got, empty_ready, some_full, some_empty}
 use Rattle.qs_serde.proofs.RunFields.{after, after_none, utf8_more, entries_in, IsOfStruct, of_struct, pairs_of_struct, struct_here, some_node, FieldsRead, no_fields_read, field_more, other_more, OfMap, of_map_after, entry_due, due, no_entry_due, rest_fields, struct_fields}
 use Rattle.qs_serde.proofs.RunEnums.{first_entry, name_read, struct_held, tuple_held, unit_here}
 use Rattle.qs_serde.proofs.RunPlaces.{field_first, fields_from, is_listed, item_first, items_from, items_of, listed_items, no_more_fields, place_more, places_here, same_place}
@@ -51,33 +49,8 @@ not_whole p.Whole a b = absurd cc
 not_whole p.Nothing a b = absurd cc
 
 -- what an enum's first key leads to is read for no variant of an untagged enum
-tried_no : (b outer t : Bool) → t ≡ false → cond b (t && outer) t ≡ false
-tried_no true outer true h = absurd cc
-tried_no true outer false h = refl
-tried_no false outer t h = h
-
-after_no : (names : List Name) (f : TreeFormat) (asked : Asked) → f.is_tried ≡ false → tried_after names f asked ≡ false
-after_no names f (ask.Marked outer) h = tried_no (is_untried names f) outer f.is_tried h
-after_no names f (ask.MarkedTwice outer) h = tried_no (is_tag names f) outer f.is_tried h
-after_no names f ask.Unit h = h
-after_no names f (ask.Unsigned q) h = h
-after_no names f (ask.Signed q) h = h
-after_no names f ask.Variant h = h
-after_no names f ask.Entry h = h
-after_no names f ask.Key h = h
-after_no names f ask.Enum h = h
-after_no names f ask.Content h = h
-after_no names f ask.Lacking h = h
-after_no names f ask.Kind h = h
-after_no names f ask.Tried h = h
-after_no names f ask.Ended h = h
-after_no names f ask.Nothing h = h
-
 settled_no : (names : List Name) (f : TreeFormat) → f.is_tried ≡ false → (settled names f).is_tried ≡ false
-settled_no names f h = either (is_first f) (tried_after names f f.asked) f.is_tried (after_no names f f.asked h) h where
-  either : (b t u : Bool) → t ≡ false → u ≡ false → cond b t u ≡ false
-  either true t u h g = h
-  either false t u h g = g
+settled_no names f h = either_false (is_first f) (tried_after names f) f.is_tried (either_false (is_marked f.asked && is_shared names) (settled_try f) f.is_tried (untried f h) h) h
 
 held_or_value : (b c : Bool) (q : Part) → b ≡ false → q ≡ cond b p.Whole (cond c p.Held p.Value) → (q ≡ p.Held) ⊎ (q ≡ p.Value)
 held_or_value true c q e h = absurd cc
@@ -127,7 +100,7 @@ mutual
   run_reads rd a old new x (name_run names at {vs = vs} {looked = looked} {v = v} looks str picks named this unit) e direct ready =
       let look = looked_on old looked looks ready in (
         name_read rd names vs (tree_at old) at v str (subst (λ t. LooksUp t names at) (scalar_same looked.part (tree_at looked) look.1.whole ∙ look.0) picks.0) named this unit,
-        levels old looked new look.2 (subst (λ f. IsLevel looked f) (sym picks.1) (taken looked _ refl refl refl refl (λ d. d))),
+        levels old looked new look.2 (subst (λ f. IsLevel looked f) (sym picks.1) (taken looked _ refl refl refl refl (λ d. (d.0, name_untried looked d.1)))),
       )
   run_reads rd a old new x (variant_run {vs = vs} {names = names} {looked = looked} {first = first} {come = come} {read = read} {at = at} {v = v} looks str begins comes named this content leaves) e direct ready =
       let look = looked_on old looked looks ready in
@@ -149,11 +122,11 @@ mutual
       )
   run_reads rd a old new x (places_run {unknown = unknown} {names = names} {fs = fs} {first = first} {named = ns} begins is named h) e direct ready =
       let node = tree_of old.node.now in
-      let listed_at = is_listed old.part old.search.doubts.is_short node ready.whole is in
+      let listed_at = is_listed old.part old.search.is_short node ready.whole is in
       let top : listed (tree_of first.top.now) ≡ sequence_items (items_of node) = ap (λ (v : Bor ParsedValue). listed (tree_of v.now)) begins.top ∙ listed_items node listed_at in
       let got = places_read rd names fs first new ns (items_of node) h named top (ap (λ r. r.reject_duplicates) begins.keeps.0 ∙ e) (on old first begins.keeps direct) in (
         ap (option_map (λ ms. d.struct (d.members_of ms)))
-            (places_here (keys_are_allowed unknown fs) (reads_names rd fs) (reads_places rd fs) old.part old.search.doubts.is_short node (tree_of old.top.now) (count_of old - 1) ready.part ready.whole is listed_at
+            (places_here (keys_are_allowed unknown fs) (reads_names rd fs) (reads_places rd fs) old.part old.search.is_short node (tree_of old.top.now) (count_of old - 1) ready.part ready.whole is listed_at
             ∙ subst (λ f. reads_places rd (fields_from (next_field f) fs) (items_from (passed f) (items_of node)) ≡ Some ns) begins.frame got.0),
         map_level old first new k.Places ready begins got.1.0 got.1.1 got.1.2 got.1.3,
       )
@@ -179,13 +152,13 @@ mutual
         map_level old first new k.Items ready begins.0 got.1.0 got.1.1 got.1.2 got.1.3,
       )
   run_reads rd a old new x (struct_run {unknown = unknown} {names = names} {fs = fs} {first = first} {ms = ms} {named = ns} begins kind named differ h all) e direct ready =
-      let node : IsOfStruct (tree_of old.node.now) = of_struct old.part old.search.doubts.is_short (tree_of old.node.now) ready.whole kind in
+      let node : IsOfStruct (tree_of old.node.now) = of_struct old.part old.search.is_short (tree_of old.node.now) ready.whole kind in
       let es = entries_in (tree_of old.node.now) in
       let map : OfMap first es = ap (λ (v : Bor ParsedValue). pairs_in (tree_of v.now)) begins.top ∙ pairs_of_struct (tree_of old.node.now) node in
       let got = members_read rd unknown names fs first new ms es h named differ (subst IsSome (sym begins.frame) refl) map (ap (λ r. r.reject_duplicates) begins.keeps.0 ∙ e) (on old first begins.keeps direct) in
       let fields = subst (λ m. FieldsRead rd unknown fs (after m es) ms) (ap passed begins.frame) got.0 in (
         ap (option_map (λ ms. d.struct (d.members_of ms))) (struct_here (keys_are_allowed unknown fs) (reads_names rd fs) (reads_places rd fs) ns old.part (tree_of old.node.now) (tree_of old.top.now) (count_of old - 1)
-            ready.part ready.whole (some_node old.part (tree_of old.node.now) old.search.doubts.is_short kind) node (struct_fields rd unknown fs es ms ns fields all) (utf8_more _ _ fields.1 fields.2)),
+            ready.part ready.whole (some_node old.part (tree_of old.node.now) old.search.is_short kind) node (struct_fields rd unknown fs es ms ns fields all) (utf8_more _ _ fields.1 fields.2)),
         map_level old first new k.Fields ready begins got.1.0 got.1.1 got.1.2 got.1.3,
       )
   run_reads rd a old new x (mapping_run {key = key} {a = b} {first = first} {ps = ps} begins h) e direct ready =

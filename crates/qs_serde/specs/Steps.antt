@@ -22,7 +22,7 @@ use Rattle.serde.specs.declared.format.Kind.TheVariants as kind
 use Rattle.qs_serde.specs.Nodes.{IsEntry, is_list, is_map, key_tree, listed, pairs_in}
 use Rattle.qs_serde.specs.Lookups.{LooksUp}
 use Rattle.qs_serde.specs.Places.{IsAt, count_of, kind_of, opens, scalar_at, tree_at, value_part, whole_part}
-use Rattle.qs_serde.specs.Tries.{asks_kind, is_marked, picked_part, settled, tried_back}
+use Rattle.qs_serde.specs.Tries.{asks_kind, is_marked, picked_part, settled, tried_at_name, tried_back}
 use Rattle.qs_serde.specs.declared.reading.node.Node.{Node}
 use Rattle.qs_serde.specs.declared.reading.node.Part.{Part}
 use Rattle.qs_serde.specs.declared.reading.node.Part.TheVariants as p
@@ -62,7 +62,7 @@ Notes old new = new ≡ record old { part = part_after old.is_tried old.part; as
 
 -- the same of a text that names a variant
 abbrev pub NotesName : TreeFormat → TreeFormat → Type 0
-NotesName old new = new ≡ record old { part = part_after old.is_tried old.part; asked = new.asked; clues = new.clues }
+NotesName old new = new ≡ record old { part = part_after (tried_at_name old) old.part; asked = new.asked; clues = new.clues; is_tried = tried_at_name old }
 
 -- the shape of a scalar reads this from what was next
 abbrev pub Is : TreeFormat → s.Shape → d.Data → Type 0
@@ -167,7 +167,7 @@ kind_of_struct whole is_short t = cond whole (whole_struct t) (part_struct is_sh
 
 -- the kind of the struct that is next
 abbrev pub next_struct : TreeFormat → Option FrameKind
-next_struct f = option_and_then (kind_of_struct (is_whole f.part) f.search.doubts.is_short) (next_node f)
+next_struct f = option_and_then (kind_of_struct (is_whole f.part) f.search.is_short) (next_node f)
 
 -- the node has a list
 abbrev pub HasItems : Tree → Type 0

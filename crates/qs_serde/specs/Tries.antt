@@ -1,5 +1,5 @@
 -- Which marks are those of untagged enums, whose variants have to read all of a node.
-use Rattle.std.specs.Prelude.{◌==◌, Bool, true, false, not, ◌&&◌, ◌||◌, cond, List, length}
+use Rattle.std.specs.Prelude.{◌==◌, Bool, true, false, not, ◌&&◌, ◌||◌, cond, List, Option, Some, None}
 use Rattle.std.specs.List.{list_any}
 use Rattle.serde.specs.declared.name.Name.{Name}
 use Rattle.qs_tree.specs.tree.Views.{tree_of}
@@ -12,59 +12,68 @@ use Rattle.qs_serde.specs.declared.reading.format.Asked.TheVariants as a
 use Rattle.qs_serde.specs.declared.reading.format.Mark.{Mark}
 use Rattle.qs_serde.specs.declared.reading.format.TreeFormat.{TreeFormat}
 
--- The kind of the node was requested last: a mark is then that of an untagged enum, as far as is known.
+-- The kind of the node was requested last: a mark is then taken for that of an untagged enum.
 abbrev pub asks_kind : Asked → Bool
 asks_kind a.Kind = true
 asks_kind _ = false
 
-abbrev pub asked_after : Bool → Asked → Asked
-asked_after is_tried a.Kind = a.Marked is_tried
-asked_after is_tried (a.Marked outer) = a.MarkedTwice outer
-asked_after is_tried _ = a.Tried
-
 -- the format after a mark
 abbrev pub marked : TreeFormat → TreeFormat
-marked f = record f { part = cond (asks_kind f.asked) (whole_part f.part) f.part; is_tried = f.is_tried || asks_kind f.asked; asked = asked_after f.is_tried f.asked }
+marked f = record f {
+  part = cond (asks_kind f.asked) (whole_part f.part) f.part;
+  is_tried = cond (asks_kind f.asked) true f.is_tried;
+  was_tried = cond (asks_kind f.asked) (Some f.is_tried) None;
+  asked = cond (asks_kind f.asked) a.Marked a.Tried;
+}
 
 -- whether a variant is tried after a rewind to a mark
 abbrev pub tried_back : Mark → TreeFormat → Bool
 tried_back mark f = f.is_tried && (mark.is_tried || mark.is_try)
 
--- Whether the only name that is requested in a map is taken for a tag. Then the mark before it is that of an enum with a tag.
-abbrev pub is_tag : List Name → TreeFormat → Bool
-is_tag names f = (length names == 1) && f.search.doubts.is_tagged
+-- Whether a variant is tried once it is known that the last mark wasn't that of an untagged enum.
+abbrev pub settled_try : TreeFormat → Bool
+settled_try f = tried_as f.is_tried f.was_tried where
+  tried_as : Bool → Option Bool → Bool
+  tried_as is_tried None = is_tried
+  tried_as is_tried (Some was_tried) = is_tried && was_tried
 
--- whether the mark before a map isn't that of an untagged enum: the fields of a struct share its map with others, or it is that of a tag
-abbrev pub is_untried : List Name → TreeFormat → Bool
-is_untried names f = list_any (λ (n : Name). n.skipped) names || is_tag names f
+-- A text that names a variant right after the only key that was requested is that of a tag, and so was the mark.
+abbrev pub asks_content : Asked → Bool
+asks_content a.Content = true
+asks_content _ = false
+
+abbrev pub tried_at_name : TreeFormat → Bool
+tried_at_name f = cond (asks_content f.asked) (settled_try f) f.is_tried
+
+-- the fields of a struct share its map with others
+abbrev pub is_shared : List Name → Bool
+is_shared names = list_any (λ (n : Name). n.skipped) names
 
 -- whether a variant is tried after the first key of a map was requested
-abbrev pub tried_after : List Name → TreeFormat → Asked → Bool
-tried_after names f (a.Marked outer) = cond (is_untried names f) (f.is_tried && outer) f.is_tried
-tried_after names f (a.MarkedTwice outer) = cond (is_tag names f) (f.is_tried && outer) f.is_tried
-tried_after names f _ = f.is_tried
+abbrev pub is_marked : Asked → Bool
+is_marked a.Marked = true
+is_marked _ = false
+
+abbrev pub tried_after : List Name → TreeFormat → Bool
+tried_after names f = cond (is_marked f.asked && is_shared names) (settled_try f) f.is_tried
 
 abbrev pub is_first : TreeFormat → Bool
 is_first f = count_of f == 0
 
 abbrev pub settled : List Name → TreeFormat → TreeFormat
-settled names f = record f { is_tried = cond (is_first f) (tried_after names f f.asked) f.is_tried }
+settled names f = record f { is_tried = cond (is_first f) (tried_after names f) f.is_tried }
 
 -- Whether the innermost node has to be a map that isn't a list, when its first key is requested: for a variant with fields of an untagged
 -- enum, or of one with a tag and a content.
-abbrev pub needs_map : Bool → Asked → Bool
-needs_map untried (a.Marked outer) = not untried
-needs_map untried a.Content = true
-needs_map untried _ = false
+abbrev pub needs_map : List Name → Asked → Bool
+needs_map names a.Marked = not (is_shared names)
+needs_map names a.Content = true
+needs_map names _ = false
 
 abbrev pub may_enter : List Name → TreeFormat → Bool
-may_enter names f = not (is_first f && needs_map (is_untried names f) f.asked) || is_map (tree_of f.top.now)
+may_enter names f = not (is_first f && needs_map names f.asked) || is_map (tree_of f.top.now)
 
 -- the same when its first entry is requested
-abbrev pub is_marked : Asked → Bool
-is_marked (a.Marked outer) = true
-is_marked _ = false
-
 abbrev pub may_go_over : TreeFormat → Bool
 may_go_over f = not (is_first f && is_marked f.asked) || is_map (tree_of f.top.now)
 

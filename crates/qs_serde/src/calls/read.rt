@@ -101,7 +101,7 @@ pub fn explain_bytes<'de, T: Deserialize<'de>>(
     let mut format = TreeFormat::new(alloc, config, &tree);
     match read_tree(alloc, input, &mut format) {
         Ok(value) => Ok(value),
-        Err(error) => read_again(alloc, config, input, &tree, format.doubts, error),
+        Err(error) => read_again(alloc, config, input, &tree, format.is_short, error),
     }
 }
 
@@ -121,7 +121,7 @@ pub fn from_bytes_with<'de, T: Deserialize<'de>>(
     let mut format = TreeFormat::new(alloc, config, &tree);
     match read_tree(alloc, input, &mut format) {
         Ok(value) => Ok(value),
-        Err(error) => match read_again(alloc, config, input, &tree, format.doubts, error) {
+        Err(error) => match read_again(alloc, config, input, &tree, format.is_short, error) {
             Ok(value) => Ok(value),
             Err(error) => Err(error.error),
         },

@@ -71,9 +71,7 @@ impl<'t, 'qs> TreeFormat<'t, 'qs> {
             }
             Asked::Lacking => self.no_content(),
             Asked::Tried => self.saying("data did not match any variant of untagged enum"),
-            Asked::Entry | Asked::Marked(_) | Asked::MarkedTwice(_) | Asked::Nothing => {
-                self.no_value()
-            }
+            Asked::Entry | Asked::Marked | Asked::Nothing => self.no_value(),
         }
     }
 

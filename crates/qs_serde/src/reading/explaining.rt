@@ -3,7 +3,7 @@
 ghost use Rattle.std.specs.Prelude.{IfErr};
 ghost use Rattle.qs_data.specs.read.Errors.{IsOfReading};
 
-use super::format::{Asked, Doubts, Search, TreeFormat, read_tree};
+use super::format::{Asked, Search, TreeFormat, read_tree};
 use super::path_error::PathError;
 use super::{ReadError, Result};
 use qs_data::Width;
@@ -11,8 +11,8 @@ use qs_tree::{Config, ParsedValue};
 use serde::Deserialize;
 use std::alloc::{AllocError, Global};
 
-/// Reads a tree again, after a read that failed with this error. It returns the value if the first read assumed wrongly, or else the error
-/// that comes first, with its path.
+/// Reads a tree again, after a read that failed with this error. It returns the error that comes first, with its path; or the value, if a
+/// list was too short for a struct, and the type has defaults for what it lacks.
 #[cold]
 #[inline(never)]
 pub(crate) fn read_again<'de, T: Deserialize<'de>>(
@@ -20,7 +20,7 @@ pub(crate) fn read_again<'de, T: Deserialize<'de>>(
     config: Config,
     input: &'de [u8],
     tree: &ParsedValue<'_>,
-    doubts: Doubts,
+    is_short: bool,
     error: ReadError,
 ) -> Result<T, PathError>
     ensures { IfErr result (λ e. IsOfReading e.error) }
@@ -32,12 +32,12 @@ pub(crate) fn read_again<'de, T: Deserialize<'de>>(
     let mut format = TreeFormat::new(alloc, config, tree);
     format.search = Search {
         in_order: true,
-        doubts,
+        is_short,
         ..format.search
     };
     let read: Result<T> = read_tree(alloc, input, &mut format);
     match read {
-        Ok(value) if doubts.is_any() => Ok(value),
+        Ok(value) if is_short => Ok(value),
         Ok(_) => Err(PathError::new(path, error)),
         Err(error) => Err(located::<T>(alloc, config, input, tree, &format, error)),
     }

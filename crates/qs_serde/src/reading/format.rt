@@ -45,8 +45,10 @@ pub struct TreeFormat<'t, 'qs> {
     // How many items the list that ended last had.
     pub(crate) count: usize,
     pub(crate) search: Search,
-    // What the search should assume.
-    pub(crate) doubts: Doubts,
+    // Whether that was so before the last mark, if this came right after a look at the node's kind.
+    pub(crate) was_tried: Option<bool>,
+    // Whether a list had fewer items than a struct has fields.
+    pub(crate) is_short: bool,
     pub(crate) clues: Clues,
 }
 
@@ -73,10 +75,8 @@ pub(crate) enum Asked {
     Lacking,
     /// The kind of the node.
     Kind,
-    /// Its kind, and then a mark, which may be that of an untagged enum; whether the mark is in a variant of another one.
-    Marked(bool),
-    /// The same with a second mark.
-    MarkedTwice(bool),
+    /// Its kind, and then a mark.
+    Marked,
     /// Each of several ways to read the node.
     Tried,
     /// An item of a list that ended.
@@ -95,16 +95,8 @@ pub(crate) struct Search {
     /// Which of them, counted from 1, is replaced by a number that `width` doesn't hold; 0 for none.
     pub(crate) probed: usize,
     pub(crate) width: Width,
-    pub(crate) doubts: Doubts,
-}
-
-/// What a read doesn't learn of the type. It assumes otherwise, and if it fails, a second read assumes this.
-#[derive(Clone, Copy)]
-pub(crate) struct Doubts {
-    /// A struct may be read from a list with fewer items than it has fields.
+    /// Whether the type decides which items a list may lack that is read as a struct.
     pub(crate) is_short: bool,
-    /// A mark after a look at the node may be that of an enum with a tag, in place of an untagged enum.
-    pub(crate) is_tagged: bool,
 }
 
 /// A place in a tree that a format can return to.
@@ -130,23 +122,8 @@ impl Search {
             numbers: 0,
             probed: 0,
             width: Width::Bits64,
-            doubts: Doubts::none(),
-        }
-    }
-}
-
-impl Doubts {
-    /// Returns that there are none.
-    pub(crate) fn none() -> Doubts {
-        Doubts {
             is_short: false,
-            is_tagged: false,
         }
-    }
-
-    /// Returns whether there is one.
-    pub(crate) fn is_any(self) -> bool {
-        self.is_short || self.is_tagged
     }
 }
 
@@ -174,7 +151,8 @@ impl<'t, 'qs> TreeFormat<'t, 'qs> {
             is_tried: false,
             count: 0,
             search: Search::none(),
-            doubts: Doubts::none(),
+            was_tried: None,
+            is_short: false,
             clues: Clues::none(alloc),
         }
     }

@@ -158,7 +158,7 @@ impl<'t, 'qs> TreeFormat<'t, 'qs> {
         if self.go_to_item(Frame { field, ..frame })? {
             return Ok(Some(at));
         }
-        self.doubts.is_short = true;
+        self.is_short = true;
         Err(self.wrong_length())
     }
 
@@ -234,9 +234,9 @@ impl<'t, 'qs> TreeFormat<'t, 'qs> {
 
     // Returns the kind of frame by which a sequence is read as a struct: each item as a field, or all items if the sequence may end early.
     fn kind_of_list(&self) -> FrameKind
-        ensures { result ≡ list_kind self.now.search.doubts.is_short }
+        ensures { result ≡ list_kind self.now.search.is_short }
     {
-        if self.search.doubts.is_short {
+        if self.search.is_short {
             FrameKind::Items
         } else {
             FrameKind::Places

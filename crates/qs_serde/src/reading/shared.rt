@@ -10,7 +10,7 @@ ghost use Rattle.qs_serde.specs.Errors.{FailsOn};
 ghost use Rattle.qs_serde.specs.Nodes.{is_map, pairs_in};
 ghost use Rattle.qs_serde.specs.Places.{count_of, held_part, kind_of};
 ghost use Rattle.qs_serde.specs.Steps.{EntryIs, Leaves};
-ghost use Rattle.qs_serde.specs.Tries.{is_tag, is_untried, may_enter, needs_map, picked_part, settled, tried_after};
+ghost use Rattle.qs_serde.specs.Tries.{may_enter, needs_map, picked_part, settled, tried_after};
 
 use super::Result;
 use super::format::{Asked, TreeFormat};
@@ -99,51 +99,21 @@ impl<'t, 'qs> TreeFormat<'t, 'qs> {
         };
     }
 
-    // Before the first key of a map: decides whether the mark before it is that of an untagged enum, and tests the map if all of it has to be
-    // read.
+    // Before the first key of a map: fields that share their map with others aren't those of an untagged enum's variant. Such a variant, and
+    // that of an enum with a content, has fields only in a map.
     fn enter(&mut self, names: &[Name<'_>]) -> Result<()>
-        ensures settles { OnOk result (self.new ≡ record self.old { is_tried = tried_after names.now self.old self.old.asked; doubts = self.new.doubts }) }
-        ensures enters { OnOk result (not (needs_map (is_untried names.now self.old) self.old.asked) || is_map (tree_of self.old.top.now) ≡ true) }
+        ensures settles { OnOk result (self.new ≡ record self.old { is_tried = tried_after names.now self.old }) }
+        ensures enters { OnOk result (not (needs_map names.now self.old.asked) || is_map (tree_of self.old.top.now) ≡ true) }
         ensures errors { FailsOn (tree_of self.old.top.now) result }
     {
         match self.asked {
-            Asked::Marked(outer) => {
-                if !self.is_untried(names) {
-                    return self.test_map(self.top);
-                }
-                self.is_tried = self.is_tried && outer;
+            Asked::Marked if has_skipped(names) => {
+                self.settle();
                 Ok(())
             }
-            Asked::MarkedTwice(outer) => {
-                if self.may_be_tag(names) {
-                    self.is_tried = self.is_tried && outer;
-                }
-                Ok(())
-            }
-            Asked::Content => self.test_map(self.top),
+            Asked::Marked | Asked::Content => self.test_map(self.top),
             _ => Ok(()),
         }
-    }
-
-    // Returns whether the mark before a map's first key isn't that of an untagged enum: the fields of a struct share its map with others, or
-    // it may be the mark of an enum with a tag.
-    fn is_untried(&mut self, names: &[Name<'_>]) -> bool
-        ensures value { result ≡ is_untried names.now self.old }
-        ensures notes { self.new ≡ record self.old { doubts = self.new.doubts } }
-    {
-        has_skipped(names) || self.may_be_tag(names)
-    }
-
-    // Returns whether a second read assumes that the only name is a tag. For a first read it notes that it may be one.
-    fn may_be_tag(&mut self, names: &[Name<'_>]) -> bool
-        ensures value { result ≡ is_tag names.now self.old }
-        ensures notes { self.new ≡ record self.old { doubts = self.new.doubts } }
-    {
-        if names.len() != 1 {
-            return false;
-        }
-        self.doubts.is_tagged = true;
-        self.search.doubts.is_tagged
     }
 
     /// Tests whether a node is a map that isn't a list.

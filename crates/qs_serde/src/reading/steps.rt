@@ -241,15 +241,15 @@ impl<'t, 'qs> Format for TreeFormat<'t, 'qs> {
         ensures errors { IfErr result (λ e. ReadRejects true e (next_entries self.old)) }
     {
         let node = self.next_node()?;
-        if self.part == Part::Whole && !matches!(self.asked, Asked::Marked(_)) && !is_map(node) {
+        if self.part == Part::Whole && !matches!(self.asked, Asked::Marked) && !is_map(node) {
             return Err(self.error(self.reader.not_an_enum(node)));
         }
         ReadError::of_result(self.reader.alloc, self.reader.entries(node))?;
         self.open(FrameKind::Map)
     }
 
-    // A sequence is begun as a map too: `next_key` then counts its fields, and further items are passed over. A text holds fields only in a
-    // variant, under the empty key.
+    // A sequence is begun as a map too: `next_key` then counts its fields, and further items are passed over. Where all items have to be
+    // read, it is begun as a list.
     #[tactic(auto, using(crate::proofs::Errors::begin_errors))]
     fn begin_struct(&mut self, _input: &[u8]) -> Result<bool>
         ensures step { IfOk result (λ b. BeginsAfterLook self.old b self.new) }
@@ -289,7 +289,7 @@ impl<'t, 'qs> Format for TreeFormat<'t, 'qs> {
             self.close();
             return Ok(false);
         };
-        if frame.next == 0 && matches!(self.asked, Asked::Marked(_)) && !is_map(self.top) {
+        if frame.next == 0 && matches!(self.asked, Asked::Marked) && !is_map(self.top) {
             return Err(self.no_value());
         }
         match self.go_to_entry(frame) {
@@ -305,6 +305,9 @@ impl<'t, 'qs> Format for TreeFormat<'t, 'qs> {
         ensures step { IfOk result (λ at. Picks self.old false names.now at self.new) }
         ensures errors { FailsOn (scalar_at self.old) result }
     {
+        if matches!(self.asked, Asked::Content) {
+            self.settle();
+        }
         let is_key = self.part == Part::Key;
         let node = self.take();
         self.asked = if is_key { Asked::Entry } else { Asked::Variant };

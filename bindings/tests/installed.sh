@@ -6,7 +6,7 @@ calls=$("$root/bindings/calls")
 
 try_files() {
     local name
-    for name in lib/libserde_qs.a share/doc/serde_qs/{LICENSE-MIT,LICENSE-APACHE,NOTICE,LIBRARY.md} share/man/man3/serde_qs.3; do
+    for name in include/serde_qs.hpp lib/libserde_qs.a share/doc/serde_qs/{LICENSE-MIT,LICENSE-APACHE,NOTICE,LIBRARY.md} share/man/man3/serde_qs.3; do
         runs "$name is installed" test -s "$prefix/$name"
     done
     same 'the name that programs look for' "$(readlink "$lib/libserde_qs.so.${version%%.*}")" "libserde_qs.so.$version"

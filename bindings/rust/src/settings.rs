@@ -22,11 +22,11 @@ pub enum ArrayFormat {
 /// [`ErrorKind::TooLong`](crate::ErrorKind::TooLong).
 ///
 /// ```
-/// use serde_qs::Settings;
+/// use serde_qs_proved::Settings;
 ///
 /// let form = Settings { form: true, ..Settings::default() };
 /// assert_eq!(form.parse("a%5Bb%5D=1")?, r#"{"a":{"b":"1"}}"#);
-/// # Ok::<(), serde_qs::Error>(())
+/// # Ok::<(), serde_qs_proved::Error>(())
 /// ```
 #[repr(C)]
 #[derive(Clone, Copy, Debug, PartialEq, Eq)]
@@ -70,8 +70,8 @@ impl Settings {
     /// For the forms and queries of strangers: form mode, where browsers may encode brackets; at most 1 MiB and 4,096 pairs.
     ///
     /// ```
-    /// assert_eq!(serde_qs::Settings::WEB.parse("a%5Bb%5D=1")?, r#"{"a":{"b":"1"}}"#);
-    /// # Ok::<(), serde_qs::Error>(())
+    /// assert_eq!(serde_qs_proved::Settings::WEB.parse("a%5Bb%5D=1")?, r#"{"a":{"b":"1"}}"#);
+    /// # Ok::<(), serde_qs_proved::Error>(())
     /// ```
     pub const WEB: Settings = Settings { form: true, max_length: 1 << 20, max_pairs: 4096, ..Settings::QUERY };
 

@@ -2,7 +2,7 @@
 //! A line is a call, its settings, a shape or a path, and a text, with tabs between them. The settings are `query`, `form` or `web`,
 //! and words after a blank: `depth=N`, `empty` or `unindexed`, `reject`, `length=N`, `pairs=N` and `output=N`.
 
-use serde_qs::{ArrayFormat, Settings, decode};
+use serde_qs_proved::{ArrayFormat, Settings, decode};
 
 fn settings_of(words: &str) -> Settings {
     let mut settings = Settings::default();

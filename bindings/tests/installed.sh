@@ -1,4 +1,5 @@
-# What an installed library is: its files, its calls, how it is linked, what it says of itself; and how it is installed. bindings/try sources this.
+# What an installed library is: its files, its calls, how it is linked, what it says of itself; and how it is packed and installed. bindings/try
+# sources this.
 
 lib=$prefix/lib
 version=$("$root/bindings/header" version)
@@ -15,6 +16,36 @@ try_files() {
     runs 'a package below DESTDIR' env DESTDIR="$room/packed" "$root/install" /usr
     same 'the prefix of a package' "$(sed -n 's/^prefix=//p' "$room/packed/usr/lib/pkgconfig/serde_qs.pc")" /usr
     same 'what is in no folder of the package' "$(find "$room/packed" -mindepth 1 -maxdepth 1)" "$room/packed/usr"
+}
+
+try_packages() {
+    local word
+    same 'the packages' "$(cd "$packages" && ls | sed "s/$version/V/" | tr '\n' ' ')" \
+        'SHA256SUMS libserde-qs_V-1_amd64.deb serde_qs-V-linux-x86_64.tar.gz serde_qs-V-py3-none-manylinux2014_x86_64.whl serde_qs_proved-0.1.0.crate '
+    runs 'their checksums' env -C "$packages" sha256sum -c --quiet SHA256SUMS
+    runs 'the same packages again' "$root/bindings/package" again
+    same 'their bytes' "$(cat again/SHA256SUMS)" "$(cat "$packages/SHA256SUMS")"
+    for word in --wheel '' 'a b'; do
+        ! "$root/bindings/package" $word >said 2>&1 && [ ! -e a ] && pass || fail "package with '$word' is no error"
+    done
+}
+
+# The package for Debian, below an empty folder.
+try_deb() {
+    local target=$room/debian below=usr/lib/x86_64-linux-gnu
+    command -v dpkg >/dev/null && [ "$(id -u)" = 0 ] || { echo '  there is no dpkg, or it has no right to install: the package for Debian is not tried'; return; }
+    mkdir -p "$target"/var/lib/dpkg/{info,updates} && touch "$target/var/lib/dpkg/status"
+    local dpkg=(dpkg --root="$target" --force-not-root --force-depends --force-bad-path --log=/dev/null)
+    runs 'dpkg -i' "${dpkg[@]}" -i "$packages"/*.deb || return
+    cmp -s "$target/$below/libserde_qs.a" "$lib/libserde_qs.a" && pass || fail 'the package for Debian has another library'
+    same 'its name for programs' "$(readlink "$target/$below/libserde_qs.so.${version%%.*}")" "libserde_qs.so.$version"
+    if command -v cc >/dev/null; then
+        cp "$tests"/c/{call.h,cases.c} .
+        runs 'a program by that package' cc -std=c11 cases.c -I"$target/usr/include" -L"$target/$below" -lserde_qs -o by_deb
+        same 'what it prints' "$(LD_LIBRARY_PATH=$target/$below ./by_deb <calls | head -n 1)" "$(head -n 1 wanted)"
+    fi
+    runs 'dpkg -r' "${dpkg[@]}" -r libserde-qs
+    same 'what is left of it' "$(find "$target/usr" -type f 2>/dev/null)" ''
 }
 
 # What isn't an installation installs nothing; one is removed whole, without what else is there.
@@ -65,6 +96,8 @@ END
 try_linking() {
     local shared=$lib/libserde_qs.so found
     runs 'what the library needs is in glibc 2.17' python3 -B "$root/bindings/elf.py" manylinux "$shared"
+    ! command -v objdump >/dev/null || same 'the same by objdump' \
+        "$({ objdump -T "$shared" | grep -o 'GLIBC_[0-9.]*'; echo GLIBC_2.17; } | sort -uV | tail -n 1)" GLIBC_2.17
     command -v nm >/dev/null && command -v readelf >/dev/null || { echo '  there is no nm or no readelf: what is exported is not tried'; return; }
     same 'what the shared library exports' "$(nm -D --defined-only "$shared" | awk '$2 != "A" { sub(/@.*/, "", $3); print $3 }' | sort)" "$(sort <<<"$calls")"
     same 'the versions' "$(readelf -W --dyn-syms "$shared" | grep -c ' qs_[a-z]*@@SERDE_QS_1')" "$(wc -l <<<"$calls")"
@@ -99,6 +132,8 @@ try_versions() {
     ! command -v pkg-config >/dev/null || same 'the version by pkg-config' "$(pkg-config --modversion serde_qs)" "$version"
 }
 
+try_packages
+try_deb
 try_files
 try_options
 try_linking

@@ -1,4 +1,4 @@
-# Rust: programs of their own that have the crate bindings/rust as a dependency, without a network. bindings/try sources this.
+# Rust: programs of their own that have the packed crate as a dependency, without a network. bindings/try sources this.
 
 export CARGO_NET_OFFLINE=true CARGO_TARGET_DIR=$room/target RUSTFLAGS='-D warnings'
 
@@ -12,7 +12,7 @@ version = "0.1.0"
 edition = "2021"
 
 [dependencies]
-serde_qs_proved = { path = "$root/bindings/rust", features = [$2] }
+serde_qs_proved = { path = "$room/crate", features = [$2] }
 ${3-}
 END
     (cd "rust_$1" && env "${find[@]}" cargo build -q --release) && cp "target/release/$1" "rust_$1/program"
@@ -26,7 +26,6 @@ try_serde() {
     printf '[source.crates-io]\nreplace-with = "debian"\n[source.debian]\ndirectory = "%s"\n' "$registry" >.cargo/config.toml
     runs 'Rust with serde' make_program typed '"serde"' 'serde = { version = "1", features = ["derive"] }' || return
     same "Rust's types, read and written" "$(./rust_typed/program 2>&1)" "$(cat "$tests/rust/typed.txt")"
-    cp -r "$root/bindings/rust" crate
     runs "the crate's examples" env -C crate "${find[@]}" cargo test -q --doc --all-features
     runs "the crate's documentation, without the library" env -C crate SERDE_QS_DIR=/none RUSTDOCFLAGS='-D warnings' cargo doc -q --no-deps --all-features
 }
@@ -54,12 +53,13 @@ try_rust() {
     runs 'Rust without the library says what is missing' grep -q 'set SERDE_QS_DIR' unbuilt
     find=(-u PKG_CONFIG_PATH PKG_CONFIG_LIBDIR="$room")
     ! make_program cases "" >unbuilt 2>&1 && pass || fail 'Rust is built without a package'
-    runs 'Rust without the library says what pkg-config said' grep -q "serde_qs' found" unbuilt
+    runs 'Rust without the library says what pkg-config said' grep -q 'pkg-config: .*serde_qs' unbuilt
     find=(SERDE_QS_DIR="$prefix")
     try_serde
 }
 
 if command -v cc >/dev/null && command -v cargo >/dev/null; then
+    mkdir crate && tar -xzf "$packages"/*.crate -C crate --strip-components 1
     try_rust
 else
     echo '  there is no cargo, or no cc for it to link with: the Rust crate is not tried'

@@ -5,6 +5,7 @@
 #   install.sh --uninstall [PREFIX]          removes what was installed there, which PREFIX/share/serde_qs/manifest lists
 #   install.sh --help                        prints these lines
 set -eu
+umask 022
 
 usage() {
     sed -n 's/^#   //p' "$0"

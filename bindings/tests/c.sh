@@ -43,6 +43,12 @@ try_cpp() {
     try_language C++ ./cpp_cases
 }
 
+# A processor with the first x86-64's instructions alone, as virtual machines often show it.
+try_old_processor() {
+    command -v qemu-x86_64 >/dev/null || { echo '  there is no qemu-x86_64: no old processor is tried'; return; }
+    try_language 'C, static, on an old processor' env -u LD_LIBRARY_PATH qemu-x86_64 -cpu qemu64 ./static_cases
+}
+
 try_c() {
     local program call wanted
     cp "$tests"/c/* .
@@ -54,6 +60,7 @@ try_c() {
     try_language 'C, static' env -u LD_LIBRARY_PATH ./static_cases
     try_texts
     try_cpp
+    try_old_processor
     runs 'a library in which each allocation can fail' \
         cc -shared -fPIC -O1 -nostdlib -fno-builtin -o failing.so "$root/scripts/support/fail_allocation.c"
     while IFS= read -r call <&3 && IFS= read -r wanted <&4; do

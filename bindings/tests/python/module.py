@@ -12,10 +12,11 @@ import sys
 import time
 import typing
 import unittest
+import unittest.mock
 import uuid
 
 import serde_qs
-from serde_qs import Shape, Status, _shapes
+from serde_qs import Shape, Status, _library, _shapes
 
 
 class Sort(enum.Enum):
@@ -212,6 +213,13 @@ class Calls(unittest.TestCase):
             with self.assertRaises(serde_qs.QuerystringError) as caught:
                 serde_qs.parse(query, **serde_qs.WEB)
             self.assertEqual(caught.exception.status, Status.TOO_LARGE)
+
+    def test_a_library_of_another_version_is_an_import_error(self):
+        for wanted in ((1, 1, 4, 1), (1, 2, 0, 1), (2, 0, 0, 1), (0, 9, 0, 1), (1, 1, 3, 2)):
+            with unittest.mock.patch.object(_library, "WANTED", wanted):
+                self.assertRaises(ImportError, _library._version_of, _library.library)
+        with unittest.mock.patch.object(_library, "WANTED", (1, 0, 9, 1)):
+            self.assertEqual(_library._version_of(_library.library)[0], 1)
 
     def test_as_a_command(self):
         def printed(text, *words):

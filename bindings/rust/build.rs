@@ -21,6 +21,8 @@ fn main() {
         Err(_) if env::var_os("DOCS_RS").is_some() => (),
         Err(why) => {
             let why = why.split_whitespace().collect::<Vec<_>>().join(" ");
+            // A file that isn't there lets this script run again each time.
+            println!("cargo:rerun-if-changed=no-library-was-found");
             println!("cargo:rustc-cfg=serde_qs_missing");
             println!(
                 "cargo:rustc-env=SERDE_QS_MISSING=the library serde_qs isn't found: {why} (set SERDE_QS_DIR to the folder that it is installed below, \
@@ -30,7 +32,7 @@ fn main() {
     }
 }
 
-/// Links the library. If the file changes, programs are linked again.
+/// Links the library. If the file changes, programs are linked anew.
 fn link(file: &Path) {
     let kind = if file.extension().map_or(false, |end| end == "a") { "static" } else { "dylib" };
     println!("cargo:rerun-if-changed={}", file.display());
@@ -41,10 +43,7 @@ fn link(file: &Path) {
 /// The file of the library.
 fn library() -> Result<PathBuf, String> {
     let folders = match env::var_os("SERDE_QS_DIR") {
-        Some(folder) => {
-            println!("cargo:rerun-if-changed={}", Path::new(&folder).display());
-            ["lib", "lib64", "lib/x86_64-linux-gnu", ""].map(|below| Path::new(&folder).join(below)).to_vec()
-        }
+        Some(folder) => ["lib", "lib64", "lib/x86_64-linux-gnu", ""].map(|below| Path::new(&folder).join(below)).to_vec(),
         None => vec![folder_by_pkg_config()?],
     };
     let names = if env::var_os("SERDE_QS_SHARED").is_some() { ["libserde_qs.so", "libserde_qs.a"] } else { ["libserde_qs.a", "libserde_qs.so"] };

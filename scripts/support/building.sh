@@ -121,23 +121,24 @@ is_left() {
     [ ! -e "$built/stamp" ] && [ -e "$built/$1.rlib/format" ] && is_made "$1" "$built/$1.rlib"
 }
 
-# build_static NAME[:CPU] LIBRARY..: proves and builds the static library of that crate over the libraries, for that processor, if it is missing or
-# out of date. The libraries are proved once more only if rt ci has not just left them. The output of the build goes to standard error.
+# build_static NAME[:CPU] LIBRARY..: proves and builds the static library of that crate over the libraries, for that processor if the kit knows others
+# than its own, if it is missing or out of date. The libraries are proved once more only if rt ci has not just left them. The output of the build goes
+# to standard error.
 build_static() {
     local name=${1%%:*} cpu=${1#"${1%%:*}"} static library kit sum flags=() note
     static=$root/crates/$name/out/lib$name.a
     note=$root/crates/$name/out/$name.made
+    kit=$(dirname "$(dirname "$(readlink -f "$(command -v rt)")")")
     sum=$(made_from "$name")
-    # What rt ci builds is for the usual processor.
     if [ -z "$cpu" ]; then
         is_made "$name" "$static" && return 0
     else
-        flags=("--cpu=${cpu#:}")
+        # What rt ci builds is for the kit's own processor, and has no note.
         sum+=" ${cpu#:}"
         is_noted "$note" "$static" "$sum" && return 0
+        "$kit/bin/rattle" build --help | grep -q -e '--cpu <' && flags=("--cpu=${cpu#:}")
     fi
     shift
-    kit=$(dirname "$(dirname "$(readlink -f "$(command -v rt)")")")
     for library; do
         is_left "$library" || break
         shift

@@ -8,7 +8,7 @@ mod inputs;
 mod timing;
 
 use inputs::Order;
-use serde_qs::{Error, Settings};
+use serde_qs_proved::{Error, Settings};
 use std::hint::black_box;
 use std::process::ExitCode;
 use timing::{grouped, nanoseconds};
@@ -31,7 +31,7 @@ impl Call {
             Call::Read(shape) => settings.read(shape, bytes).map(String::into_bytes),
             Call::Write => settings.write(text).map(String::into_bytes),
             Call::Encode => settings.encode(bytes).map(String::into_bytes),
-            Call::Decode => serde_qs::decode(bytes),
+            Call::Decode => serde_qs_proved::decode(bytes),
         }
     }
 }

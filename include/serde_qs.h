@@ -16,6 +16,7 @@
 #include <stdbool.h>
 #include <stddef.h>
 #include <stdint.h>
+#include <string.h>
 
 #ifdef __cplusplus
 extern "C" {
@@ -54,7 +55,7 @@ enum {
     QS_UNINDEXED = 2      /* a=x&a=y */
 };
 
-/* How a querystring is read and written; qs_default has the usual settings. */
+/* How a querystring is read and written. */
 typedef struct {
     size_t max_depth;       /* levels of brackets after the first key, 100 at most */
     bool form;              /* true for form mode, where brackets may be encoded; false for query mode */
@@ -66,7 +67,11 @@ typedef struct {
     size_t reserved;        /* must be 0; a later version may give other numbers a meaning */
 } qs_settings;
 
+/* Query mode, without limits. */
 static const qs_settings qs_default = {5, false, QS_INDEXED, false, 0, 0, 0, 0};
+
+/* For the forms and queries of strangers: form mode, where browsers may encode brackets; at most 1 MiB and 4,096 pairs. */
+static const qs_settings qs_web = {5, true, QS_INDEXED, false, 1048576, 4096, 0, 0};
 
 /* What a call returns in addition to its status. */
 typedef struct {
@@ -107,8 +112,10 @@ uint32_t qs_decode(const uint8_t *bytes, size_t bytes_size, uint8_t *out, size_t
 /* Returns QS_VERSION of the library. */
 uint32_t qs_version(void);
 
-/* Pass a string literal, or an array of characters, as a pointer and a size. */
-#define QS_TEXT(text) (const uint8_t *)(text), sizeof(text) - 1
+/* These pass a pointer and a size: QS_TEXT("a=1") of a string literal, and of nothing else; QS_TEXT_OF(string) of a string that ends in a
+ * NUL, where `string` is evaluated twice; QS_ROOM(array) of an array, and not of a pointer. */
+#define QS_TEXT(text) (const uint8_t *)("" text ""), sizeof("" text "") - 1
+#define QS_TEXT_OF(string) (const uint8_t *)(string), strlen(string)
 #define QS_ROOM(array) (uint8_t *)(array), sizeof(array)
 
 #ifdef __cplusplus

@@ -4,22 +4,34 @@ import base64
 import hashlib
 import pathlib
 import subprocess
+import sys
 import zipfile
 
 HERE = pathlib.Path(__file__).resolve().parent
 ROOT = HERE.parent.parent
-VERSION = subprocess.run([ROOT / "bindings/version"], check=True, stdout=subprocess.PIPE, text=True).stdout.strip()
+
+
+def printed(*command):
+    return subprocess.run(command, check=True, stdout=subprocess.PIPE, text=True).stdout.strip()
+
+
+VERSION = printed(ROOT / "bindings/header", "version")
 NAME = f"serde_qs-{VERSION}"
-TAG = "py3-none-linux_x86_64"
+BUILT = pathlib.Path(printed(ROOT / "bindings/build"))
+# A wheel that runs with every glibc since 2.17, if the library that was built here needs no later one.
+IS_OLD = subprocess.run([sys.executable, ROOT / "bindings/elf.py", "manylinux", BUILT / "libserde_qs.so"]).returncode == 0
+TAG = f"py3-none-{'manylinux2014' if IS_OLD else 'linux'}_x86_64"
 
 METADATA = f"""\
 Metadata-Version: 2.1
 Name: serde_qs
 Version: {VERSION}
-Summary: Nested querystrings, read and written by a verified library
+Summary: Nested querystrings, read and written by a proved library
 License: MIT OR Apache-2.0
 Requires-Python: >=3.9
-"""
+Description-Content-Type: text/markdown
+
+{(ROOT / "docs/LIBRARY.md").read_text()}"""
 
 WHEEL = f"""\
 Wheel-Version: 1.0
@@ -31,13 +43,12 @@ Tag: {TAG}
 
 def contents():
     """The files of the wheel, by their names in it."""
-    built = subprocess.run([ROOT / "bindings/build"], check=True, stdout=subprocess.PIPE, text=True).stdout.strip()
     info = f"{NAME}.dist-info"
     sources = [*HERE.glob("serde_qs/*.py"), HERE / "serde_qs/py.typed"]
     licences = [ROOT / name for name in ("LICENSE-MIT", "LICENSE-APACHE", "NOTICE")]
     return {
         **{f"serde_qs/{file.name}": file.read_bytes() for file in sources},
-        "serde_qs/libserde_qs.so": pathlib.Path(built, "libserde_qs.so").read_bytes(),
+        "serde_qs/libserde_qs.so": (BUILT / "libserde_qs.so").read_bytes(),
         **{f"{info}/{file.name}": file.read_bytes() for file in licences},
         f"{info}/METADATA": METADATA.encode(),
         f"{info}/WHEEL": WHEEL.encode(),

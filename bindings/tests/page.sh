@@ -18,7 +18,7 @@ page_command() {
 }
 
 try_page() {
-    local prefix=$room/page/prefix repository=$root
+    local prefix=$room/page/prefix packages=$room/page/packages repository=$root
     unset PKG_CONFIG_PATH LD_LIBRARY_PATH RUSTFLAGS
     mkdir -p page/empty && make_environment page/environment && PATH=$room/page/environment/bin:$PATH
     python3 "$tests/page.py" "$root/docs/LIBRARY.md" '## The calls' >steps || fail 'docs/LIBRARY.md has no steps'

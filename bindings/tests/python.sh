@@ -6,17 +6,15 @@ make_environment() {
     python3 -m venv "$1" >"$room/said" 2>&1
 }
 
-# Where Python has no pip, the wheel is built and unpacked without it.
+# Where Python has no pip, the wheel is unpacked without it.
 install_module() {
     if make_environment environment; then
         python=(env -u LD_LIBRARY_PATH "$room/environment/bin/python3")
-        runs 'pip install' "${python[@]}" -m pip install -q "$root/bindings/python"
+        runs 'pip install' "${python[@]}" -m pip install -q "$packages"/*.whl
     else
         echo '  there is no pip: the wheel is unpacked by hand'
         python=(env -u LD_LIBRARY_PATH PYTHONPATH="$room/site" python3)
-        mkdir wheels
-        runs 'the wheel' env -C "$root/bindings/python" python3 -c "import backend; backend.build_wheel('$room/wheels')" &&
-            python3 -m zipfile -e wheels/*.whl site
+        runs 'the wheel' python3 -m zipfile -e "$packages"/*.whl site
     fi
 }
 
@@ -59,7 +57,8 @@ try_form() {
 
 try_python() {
     install_module || return
-    same "the module's version" "$("${python[@]}" -c 'from importlib.metadata import version; print(version("serde_qs"))')" "$version"
+    same "the module's version" "$("${python[@]}" -c 'from importlib.metadata import version; import serde_qs; print(version("serde_qs"), serde_qs.__version__)')" \
+        "$version $version"
     cp "$tests"/python/*.py .
     try_language Python "${python[@]}" cases.py
     runs 'Python, the module' "${python[@]}" -m unittest -q module

@@ -6,10 +6,10 @@
 import os
 import sys
 
-root, name, kit = sys.argv[1:]
+root, name, kit, *flags = sys.argv[1:]
 sys.path.insert(0, os.path.join(kit, "bin"))
 import rtlib
 
 os.chdir(root)
 crate = next(crate for crate in rtlib.crates_below(root) if crate.name == name)
-sys.exit(crate.build_static([]))
+sys.exit(crate.build_static(flags))

@@ -121,20 +121,30 @@ is_left() {
     [ ! -e "$built/stamp" ] && [ -e "$built/$1.rlib/format" ] && is_made "$1" "$built/$1.rlib"
 }
 
-# build_static NAME LIBRARY..: proves and builds the static library of that crate over the libraries if it is missing or out of date.
-# The libraries are proved once more only if rt ci has not just left them. The output of the build goes to standard error.
+# build_static NAME[:CPU] LIBRARY..: proves and builds the static library of that crate over the libraries, for that processor if the kit knows others
+# than its own, if it is missing or out of date. The libraries are proved once more only if rt ci has not just left them. The output of the build goes
+# to standard error.
 build_static() {
-    local name=$1 static=$root/crates/$1/out/lib$1.a library kit sum
-    is_made "$name" "$static" && return 0
-    shift
-    sum=$(made_from "$name")
+    local name=${1%%:*} cpu=${1#"${1%%:*}"} static library kit sum flags=() note
+    static=$root/crates/$name/out/lib$name.a
+    note=$root/crates/$name/out/$name.made
     kit=$(dirname "$(dirname "$(readlink -f "$(command -v rt)")")")
+    sum=$(made_from "$name")
+    if [ -z "$cpu" ]; then
+        is_made "$name" "$static" && return 0
+    else
+        # What rt ci builds is for the kit's own processor, and has no note.
+        sum+=" ${cpu#:}"
+        is_noted "$note" "$static" "$sum" && return 0
+        "$kit/bin/rattle" build --help | grep -q -e '--cpu <' && flags=("--cpu=${cpu#:}")
+    fi
+    shift
     for library; do
         is_left "$library" || break
         shift
     done
     {
-        [ $# -eq 0 ] && python3 "$root/scripts/support/build_static.py" "$root" "$name" "$kit" ||
-            (cd "$root/crates/$name" && rt lib)
-    } </dev/null >&2 && touch "$static" && note_made "$root/crates/$name/out/$name.made" "$static" "$sum"
+        [ $# -eq 0 ] && python3 "$root/scripts/support/build_static.py" "$root" "$name" "$kit" "${flags[@]}" ||
+            (cd "$root/crates/$name" && rt lib "${flags[@]}")
+    } </dev/null >&2 && touch "$static" && note_made "$note" "$static" "$sum"
 }

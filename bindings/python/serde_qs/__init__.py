@@ -23,6 +23,11 @@
 - `max_pairs=0`: the most pairs (the pieces between `&`s) of a querystring that is read; 0 for no limit.
 - `max_output=0`: the most bytes of the JSON that a querystring is read into; 0 for no limit.
 
+`WEB` has the settings for forms and queries of strangers: `read_as(User, body, **serde_qs.WEB)` takes form mode, at most 1 MiB and 4,096
+pairs.
+
+`python -m serde_qs` prints the querystring of the standard input as JSON.
+
 Each function raises a `QuerystringError`, which is a `ValueError`, or a `TypeError` for an argument that is neither `str` nor bytes.
 """
 
@@ -30,6 +35,7 @@ from ._calls import (
     EMPTY_INDEXED,
     INDEXED,
     UNINDEXED,
+    WEB,
     QuerystringError,
     Settings,
     decode,
@@ -42,14 +48,20 @@ from ._calls import (
     read,
     write,
 )
-from ._shapes import read_as, shape_of
+from ._library import Status
+from ._library import version as __version__
+from ._shapes import Shape, read_as, shape_of
 
 __all__ = [
     "EMPTY_INDEXED",
     "INDEXED",
     "UNINDEXED",
+    "WEB",
     "QuerystringError",
     "Settings",
+    "Shape",
+    "Status",
+    "__version__",
     "decode",
     "dumps",
     "encode",

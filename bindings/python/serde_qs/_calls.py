@@ -5,12 +5,16 @@ from __future__ import annotations
 import collections
 import ctypes
 import dataclasses
+import datetime
+import decimal
 import enum
 import functools
 import json
-from typing import TYPE_CHECKING, Any, TypedDict, Union
+import types
+import uuid
+from typing import TYPE_CHECKING, Any, TypedDict, Union, cast
 
-from ._library import ABSENT, BAD_SETTINGS, MISMATCH, NOT_UTF8, OK, Answer, library
+from ._library import Answer, Status, library
 from ._library import Settings as _Settings
 
 if TYPE_CHECKING:
@@ -33,8 +37,14 @@ class Settings(TypedDict, total=False):
     max_output: int
 
 
+# For the forms and queries of strangers, as `qs_web` of the header.
+WEB = cast(Settings, types.MappingProxyType({"form": True, "max_length": 1 << 20, "max_pairs": 4096}))
+
+_STATUSES = {int(status): status for status in Status}
+
+
 class QuerystringError(ValueError):
-    """An error of the library: its status, as in the header, and its position in the querystring, the shape or the JSON.
+    """An error of the library: its `Status`, and its position in the querystring, the shape or the JSON.
 
     If a shape doesn't read the querystring, `path` is the path to the wrong part, such as `user[age]`. It is empty if there is no such
     part.
@@ -43,7 +53,7 @@ class QuerystringError(ValueError):
     def __init__(self, status: int, position: int, message: str) -> None:
         super().__init__(status, position, message)
         self.path = ""
-        self.status = status
+        self.status = _STATUSES.get(status, status)
         self.position = position
         self.message = message or "out of memory"
 
@@ -56,7 +66,7 @@ def _sized(text: Text) -> tuple[bytes, int]:
         try:
             text = text.encode()
         except UnicodeEncodeError as error:
-            raise QuerystringError(NOT_UTF8, error.start, "a lone surrogate can't be encoded as UTF-8") from None
+            raise QuerystringError(Status.NOT_UTF8, error.start, "a lone surrogate can't be encoded as UTF-8") from None
     elif not isinstance(text, (bytes, bytearray, memoryview)):
         raise TypeError(f"str or bytes are wanted, and not {type(text).__name__}")
     text = bytes(text)
@@ -76,7 +86,7 @@ def _answered(call: Any, *arguments: Any) -> tuple[bytes, int]:
             break
         size = answer.len
     text = out[: answer.len]
-    if status != OK:
+    if status:
         raise QuerystringError(status, answer.position, text.decode(errors="replace"))
     return text, answer.position
 
@@ -93,7 +103,7 @@ def _number(number: int) -> int:
 
 def _limit(number: int) -> int:
     if not 0 <= number < 1 << 64:
-        raise QuerystringError(BAD_SETTINGS, 0, f"a limit can't be {number}")
+        raise QuerystringError(Status.BAD_SETTINGS, 0, f"a limit can't be {number}")
     return number
 
 
@@ -115,7 +125,7 @@ def _dict(pairs: list[tuple[str, Any]]) -> dict[str, Any]:
     made = dict(pairs)
     if len(made) < len(pairs):
         (twice, _), *_ = collections.Counter(name for name, _ in pairs).most_common(1)
-        raise QuerystringError(MISMATCH, 0, f"two keys of a map have the text `{twice}`")
+        raise QuerystringError(Status.MISMATCH, 0, f"two keys of a map have the text `{twice}`")
     return made
 
 
@@ -137,7 +147,7 @@ def get(path: Text, query: Text, default: Any = None, **settings: Unpack[Setting
     try:
         value = _result(library.qs_get, _settings(**settings), *_sized(path), *_sized(query))
     except QuerystringError as error:
-        if error.status == ABSENT:
+        if error.status == Status.ABSENT:
             return default
         raise
     return _text(value, "the value isn't UTF-8")
@@ -160,7 +170,7 @@ def read(shape: Text, query: Text, *, pairs: bool = False, **settings: Unpack[Se
     try:
         text = _result(library.qs_read, _settings(**settings), *_sized(shape), *_sized(query))
     except QuerystringError as error:
-        if error.status in (MISMATCH, NOT_UTF8):
+        if error.status in (Status.MISMATCH, Status.NOT_UTF8):
             error.path, _ = explain(shape, query, **settings) or ("", "")
         raise
     return _decoded(text, pairs)
@@ -178,24 +188,59 @@ def _text(value: bytes | bytearray, message: str) -> str:
     try:
         return value.decode()
     except UnicodeDecodeError as error:
-        raise QuerystringError(NOT_UTF8, error.start, message) from None
+        raise QuerystringError(Status.NOT_UTF8, error.start, message) from None
+
+
+_ATOMS = frozenset((str, int, float, bool, type(None)))
+
+
+def _named(value: Any) -> Any:
+    """The value, with each NamedTuple that is in its lists and dicts as a dict, where the module json would write a list."""
+    if type(value) in _ATOMS:
+        return value
+    if isinstance(value, dict):
+        return value if _ATOMS.issuperset(map(type, value.values())) else {key: _named(part) for key, part in value.items()}
+    if isinstance(value, tuple) and hasattr(value, "_asdict"):
+        return _named(value._asdict())
+    if isinstance(value, (list, tuple)):
+        return value if _ATOMS.issuperset(map(type, value)) else [_named(part) for part in value]
+    return value
+
+
+@functools.lru_cache(maxsize=256)
+def _names(cls: type) -> list[tuple[str, str]] | None:
+    """The names of a dataclass's fields, in the querystring and in the class."""
+    if not dataclasses.is_dataclass(cls):
+        return None
+    return [(field.metadata.get("name", field.name), field.name) for field in dataclasses.fields(cls)]
 
 
 def _plain(value: Any) -> Any:
     """What is written for a value that the module json doesn't know."""
-    if dataclasses.is_dataclass(value) and not isinstance(value, type):
-        return {field.name: getattr(value, field.name) for field in dataclasses.fields(value)}
+    names = _names(type(value))
+    if names is not None:
+        return {key: _named(getattr(value, name)) for key, name in names}
     if isinstance(value, enum.Enum):
-        return value.value
+        return _named(value.value)
     if isinstance(value, (bytes, bytearray)):
         return _text(value, "bytes can only be written where they are UTF-8")
+    if isinstance(value, (datetime.date, datetime.time)):
+        return value.isoformat()
+    if isinstance(value, uuid.UUID) or (isinstance(value, decimal.Decimal) and value.is_finite()):
+        return str(value)
+    if isinstance(value, (set, frozenset)):
+        return _named(sorted(value, key=str))
     raise TypeError(f"a {type(value).__name__} can't be written")
 
 
+_json = json.JSONEncoder(default=_plain, ensure_ascii=False, allow_nan=False).encode
+
+
 def write(value: Any, **settings: Unpack[Settings]) -> str:
-    """Writes the value as a querystring: anything that the module json writes, dataclasses, enums, and bytes that are UTF-8."""
-    text = json.dumps(value, default=_plain, ensure_ascii=False, allow_nan=False)
-    return _result(library.qs_write, _settings(**settings), *_sized(text)).decode()
+    """Writes the value as a querystring: anything that the module json writes, and the types of `shape_of`, with keys as in json. Bytes
+    have to be UTF-8. Sets are written in the order of their texts.
+    """
+    return _result(library.qs_write, _settings(**settings), *_sized(_json(_named(value)))).decode()
 
 
 loads = parse

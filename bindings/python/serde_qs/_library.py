@@ -3,10 +3,31 @@
 from __future__ import annotations
 
 import ctypes
+import enum
 import pathlib
 from typing import Any
 
-OK, BAD_SETTINGS, MISMATCH, NOT_UTF8, ABSENT = 0, 3, 5, 6, 12
+# The version that the module is written for, as QS_VERSION has it: a later one of the same major version and notation is right too.
+WANTED = (1, 1, 3, 1)
+
+
+class Status(enum.IntEnum):
+    """The statuses of the header."""
+
+    OK = 0
+    TOO_SMALL = 1
+    OUT_OF_MEMORY = 2
+    BAD_SETTINGS = 3
+    PARSE_ERROR = 4
+    MISMATCH = 5
+    NOT_UTF8 = 6
+    BAD_SHAPE = 7
+    BAD_JSON = 8
+    TOO_DEEP = 9
+    TOO_LARGE = 10
+    TOO_LONG = 11
+    ABSENT = 12
+    BAD_PATH = 13
 
 
 class Settings(ctypes.Structure):
@@ -42,6 +63,16 @@ _CALLS: dict[str, list[Any]] = {
 }
 
 
+def _version_of(library: ctypes.CDLL) -> tuple[int, ...]:
+    """The library's version. It is an ImportError if the module isn't written for it."""
+    library.qs_version.restype = ctypes.c_uint32
+    version = tuple(library.qs_version().to_bytes(4, "big"))
+    if version[0] != WANTED[0] or version < WANTED or version[3] < WANTED[3]:
+        named = [f"{it[0]}.{it[1]}.{it[2]}, notation {it[3]}" for it in (WANTED, version)]
+        raise ImportError(f"this module needs the library serde_qs {named[0]} or later, and found {named[1]}")
+    return version
+
+
 def _load() -> ctypes.CDLL:
     beside = pathlib.Path(__file__).with_name("libserde_qs.so")
     library = ctypes.CDLL(str(beside) if beside.exists() else "libserde_qs.so.1")
@@ -53,3 +84,4 @@ def _load() -> ctypes.CDLL:
 
 
 library = _load()
+version = ".".join(map(str, _version_of(library)[:3]))

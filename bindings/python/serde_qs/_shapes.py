@@ -2,15 +2,17 @@
 
 from __future__ import annotations
 
+import collections.abc
 import dataclasses
-import enum
 import functools
-import re
+import sys
 import types
 import typing
-from typing import TYPE_CHECKING, Any, Callable, NamedTuple, TypeVar
+from typing import TYPE_CHECKING, Any, Callable, NamedTuple, Optional, TypeVar
 
-from ._calls import encode, read
+from ._calls import QuerystringError, encode, explain, read
+from ._library import Status
+from ._readers import TEXTS, Field, Reader, Unread, dict_of, first_of, itself, list_of, optional, struct_of, tuple_of, variants
 
 if TYPE_CHECKING:
     from typing_extensions import Unpack
@@ -19,154 +21,276 @@ if TYPE_CHECKING:
 
 T = TypeVar("T")
 
-
-class _Reader(NamedTuple):
-    """What reads a type: its shape, and a function that makes an instance of what the shape reads."""
-
-    shape: str
-    make: Callable[[Any], Any]
+# The shape of a class that holds itself is written out as deep as a querystring can nest, and no deeper than a shape may.
+_MOST_LEVELS = 32
+_MOST_KEYS = 14
+_MOST_CLASSES = 10_000
 
 
-def _itself(value: Any) -> Any:
-    return value
+@dataclasses.dataclass(frozen=True)
+class Shape:
+    """In `Annotated[T, Shape("u8")]`: the shape that T is read by, in the library's notation. `make`, if it is given, makes a T of what the
+    shape reads, and a ValueError of it is an error of reading.
+    """
+
+    text: str
+    make: Optional[Callable[[Any], Any]] = None
+
+
+class _Place(NamedTuple):
+    """Where a hint stands: its field, the classes around it, how many keys lead to it, what type variables stand for; how many keys lead
+    to anything, and how many classes were read so far.
+    """
+
+    name: str
+    above: tuple[Any, ...]
+    keys: int
+    types: dict[Any, Any]
+    most: int
+    count: list[int]
+
+    def below(self) -> _Place:
+        return self._replace(keys=self.keys + 1)
+
+    def error(self, why: str) -> TypeError:
+        return TypeError(f"{self.name}: {why}" if self.name else why)
 
 
 _PLAIN = {
-    str: _Reader("text", _itself),
-    bytes: _Reader("bytes", bytes),
-    bool: _Reader("bool", _itself),
-    int: _Reader("i64", _itself),
-    type(None): _Reader("unit", _itself),
-    Any: _Reader("any", _itself),
-    object: _Reader("any", _itself),
+    **TEXTS,
+    bytes: Reader("bytes", bytes),
+    type(None): Reader("unit", itself),
+    object: Reader("any", itself),
 }
-
-# A key is read as a string, since JSON has no other keys.
-_KEYS = {
-    str: _Reader("text", _itself),
-    bool: _Reader("bool", "true".__eq__),
-    int: _Reader("i64", int),
+_LISTS = {
+    list: list,
+    set: set,
+    frozenset: frozenset,
+    collections.abc.Set: frozenset,
+    collections.abc.MutableSet: set,
+    **dict.fromkeys((collections.abc.Iterable, collections.abc.Collection, collections.abc.Sequence, collections.abc.MutableSequence), list),
 }
-
+_DICTS = {dict, collections.abc.Mapping, collections.abc.MutableMapping}
 _UNIONS = {typing.Union, getattr(types, "UnionType", typing.Union)}
-_MARKS = {getattr(typing, name, None) for name in ("Required", "NotRequired", "ReadOnly")} - {None}
 
 
-def _name(name: str) -> str:
-    """The name in the notation. Between quotes it is encoded."""
-    return name if re.fullmatch(r"[\w-]+", name) else f'"{encode(name, form=True)}"'
+def _marks(*names: str) -> set[Any]:
+    """The marks of these names, of typing and of typing_extensions."""
+    modules = (typing, sys.modules.get("typing_extensions"))
+    return {getattr(module, name, None) for module in modules for name in names} - {None}
 
 
-def _variants(hint: Any) -> _Reader | None:
-    """The reader of an enum or a Literal, whose values are strings."""
-    if isinstance(hint, type) and issubclass(hint, enum.Enum):
-        values, make = [member.value for member in hint], hint
-    elif typing.get_origin(hint) is typing.Literal:
-        values, make = list(typing.get_args(hint)), _itself
-    else:
+def _hints(cls: Any, place: _Place) -> dict[str, Any]:
+    try:
+        try:
+            return typing.get_type_hints(cls, include_extras=True)
+        except NameError:  # a class within a function may name itself
+            return typing.get_type_hints(cls, localns={cls.__name__: cls}, include_extras=True)
+    except Exception as error:
+        named = place._replace(name=".".join(filter(None, (place.name or cls.__name__, _unevaluated(cls)))))
+        raise named.error(f"the hint can't be evaluated: {error}") from error
+
+
+def _unevaluated(cls: type) -> str:
+    """The first field of the class whose hint can't be evaluated."""
+    for base in cls.__mro__:
+        for name, hint in vars(base).get("__annotations__", {}).items():
+            try:
+                typing.get_type_hints(types.SimpleNamespace(__annotations__={name: hint}), vars(sys.modules[base.__module__]), {cls.__name__: cls})
+            except Exception:
+                return name
+    return ""
+
+
+def _dataclass_fields(cls: Any, place: _Place) -> list[Field]:
+    found, missing = [], dataclasses.MISSING
+    hints = _hints(cls, place)
+    for field in cls.__dataclass_fields__.values():
+        hint = hints[field.name]
+        if field.init and typing.get_origin(hint) is not typing.ClassVar and hint is not typing.ClassVar:
+            is_optional = field.default is not missing or field.default_factory is not missing
+            found.append(Field(field.name, field.metadata.get("name", field.name), hint, is_optional))
+    return found
+
+
+def _typed_dict_fields(cls: Any, place: _Place) -> list[Field]:
+    """The fields of a TypedDict. Under `from __future__ import annotations` it doesn't know its marks."""
+    found = []
+    for name, hint in _hints(cls, place).items():
+        is_optional, inner = name not in cls.__required_keys__, hint
+        while typing.get_origin(inner) in {typing.Annotated, *_marks("Required", "NotRequired", "ReadOnly")}:
+            is_optional = typing.get_origin(inner) in _marks("NotRequired") or (is_optional and typing.get_origin(inner) not in _marks("Required"))
+            inner = typing.get_args(inner)[0]
+        found.append(Field(name, name, hint, is_optional))
+    return found
+
+
+def _named_tuple_fields(cls: Any, place: _Place) -> list[Field]:
+    hints = _hints(cls, place)
+    return [Field(name, name, hints.get(name, Any), name in cls._field_defaults) for name in cls._fields]
+
+
+def _fields(cls: Any, place: _Place) -> tuple[list[Field], Callable[..., Any]] | None:
+    """The fields of a class, and what makes an instance of them."""
+    if not isinstance(cls, type):
         return None
-    if not values or not all(isinstance(value, str) for value in values):
-        raise TypeError(f"only strings can be the values of {hint!r}")
-    return _Reader(f"enum({', '.join(map(_name, values))})", make)
-
-
-def _struct(fields: dict[str, tuple[bool, _Reader]], make: Callable[..., Any]) -> _Reader:
-    """The reader of fields, each with a flag for whether it may be left out."""
-    shapes = (f"{_name(name)}{'?' if optional else ''}: {reader.shape}" for name, (optional, reader) in fields.items())
-
-    def made(value: dict[str, Any]) -> Any:
-        return make(**{name: fields[name][1].make(part) for name, part in value.items()})
-
-    return _Reader(f"{{{', '.join(shapes)}}}", made)
-
-
-def _fields(hint: type, above: tuple[Any, ...]) -> _Reader | None:
-    """The reader of a dataclass or a TypedDict."""
-    if dataclasses.is_dataclass(hint):
-        missing = dataclasses.MISSING
-        optional = {
-            field.name: field.default is not missing or field.default_factory is not missing
-            for field in dataclasses.fields(hint)
-            if field.init
-        }
-    elif isinstance(hint, type) and hasattr(hint, "__required_keys__"):
-        optional = {name: name not in hint.__required_keys__ for name in hint.__annotations__}
-    else:
-        return None
-    if hint in above:
-        raise TypeError(f"{hint!r} holds itself, and so has no shape")
-    hints = typing.get_type_hints(hint, include_extras=True)
-    below = (*above, hint)
-    return _struct({name: (left_out, _reader_of(hints[name], below)) for name, left_out in optional.items()}, hint)
-
-
-def _list(item: _Reader) -> _Reader:
-    return _Reader(f"[{item.shape}]", lambda values: [item.make(value) for value in values])
-
-
-def _tuple(items: list[_Reader]) -> _Reader:
-    shape = f"({', '.join(item.shape for item in items)})"
-    return _Reader(shape, lambda values: tuple(item.make(value) for item, value in zip(items, values)))
-
-
-def _dict(key: _Reader, value: _Reader) -> _Reader:
-    shape = f"map({key.shape}, {value.shape})"
-    return _Reader(shape, lambda pairs: {key.make(name): value.make(part) for name, part in pairs.items()})
-
-
-def _optional(some: _Reader) -> _Reader:
-    return _Reader(f"{some.shape}?", lambda value: None if value is None else some.make(value))
-
-
-def _generic(hint: Any, above: tuple[Any, ...]) -> _Reader | None:
-    """The reader of a generic type or a union."""
-    origin, args = typing.get_origin(hint), typing.get_args(hint)
-    if origin is list:
-        return _list(_reader_of(args[0], above))
-    if origin is tuple and args[1:] == (...,):
-        items = _list(_reader_of(args[0], above))
-        return _Reader(items.shape, lambda values: tuple(items.make(values)))
-    if origin is tuple:
-        return _tuple([_reader_of(arg, above) for arg in args])
-    if origin is dict:
-        key = _KEYS.get(args[0]) or _variants(args[0])
-        return key and _dict(key, _reader_of(args[1], above))
-    if origin in _UNIONS and len(args) == 2 and type(None) in args:
-        return _optional(_reader_of(args[args[0] is type(None)], above))
+    if dataclasses.is_dataclass(cls):
+        return _dataclass_fields(cls, place), cls
+    if hasattr(cls, "__required_keys__"):
+        return _typed_dict_fields(cls, place), dict
+    if issubclass(cls, tuple) and hasattr(cls, "_fields"):
+        return _named_tuple_fields(cls, place), cls
     return None
 
 
-def _reader_of(hint: Any, above: tuple[Any, ...] = ()) -> _Reader:
-    if typing.get_origin(hint) is typing.Annotated:
-        reader = _reader_of(hint.__origin__, above)
-        shapes = [word for word in hint.__metadata__ if isinstance(word, str)]
-        return reader._replace(shape=shapes[0]) if shapes else reader
-    if typing.get_origin(hint) in _MARKS:
-        return _reader_of(typing.get_args(hint)[0], above)
-    reader = _PLAIN.get(hint) or _variants(hint) or _generic(hint, above) or _fields(hint, above)
+def _filled(hint: Any, variables: dict[Any, Any]) -> Any:
+    """The hint with what its type variables stand for."""
+    if isinstance(hint, TypeVar):
+        return variables.get(hint, hint)
+    names = getattr(hint, "__parameters__", ()) if typing.get_origin(hint) else ()
+    return hint[tuple(variables.get(name, Any) for name in names)] if names else hint
+
+
+def _variables(cls: Any, args: tuple[Any, ...]) -> dict[Any, Any]:
+    """What the type variables of a generic class and of those that it is made from stand for."""
+    found = dict(zip(getattr(cls, "__parameters__", ()), args))
+    for base in vars(cls).get("__orig_bases__", cls.__bases__):
+        origin = typing.get_origin(base) or base
+        if isinstance(origin, type):
+            filled = tuple(_filled(arg, found) for arg in typing.get_args(base))
+            found = {**_variables(origin, filled), **found}
+    return found
+
+
+def _class(hint: Any, place: _Place) -> Reader | None:
+    """The reader of a dataclass, a TypedDict or a NamedTuple, generic or not."""
+    cls = typing.get_origin(hint) or hint
+    fields_and_make = _fields(cls, place)
+    if fields_and_make is None:
+        return None
+    if hint in place.above and place.keys > place.most:
+        return Reader("unit", itself)
+    place.count[0] += 1
+    if place.count[0] > _MOST_CLASSES:
+        raise place.error(f"the shape of {cls.__name__}, which holds itself, is too large")
+    fields, make = fields_and_make
+    if len({field.key for field in fields if isinstance(field.key, str)}) < len(fields):
+        raise place.error(f"two fields of {cls.__name__} have one name, or a name is no string")
+    below = place._replace(above=(*place.above, hint), keys=place.keys + 1, types=_variables(cls, typing.get_args(hint)))
+    readers = [_reader_of(field.hint, below._replace(name=f"{place.name or cls.__name__}.{field.name}")) for field in fields]
+    return struct_of(fields, readers, make)
+
+
+def _variants(hint: Any, place: _Place) -> Reader | None:
+    try:
+        return variants(hint)
+    except TypeError as error:
+        raise place.error(f"no shape reads {hint!r}: {error}") from None
+
+
+def _union(hint: Any, place: _Place) -> Reader | None:
+    """The reader of a union, or of a Literal with None."""
+    args = typing.get_args(hint)
+    if typing.get_origin(hint) in _UNIONS:
+        readers = [_reader_of(arg, place) for arg in args if arg is not type(None)]
+        some = readers[0] if len(readers) == 1 else first_of(readers)
+    elif typing.get_origin(hint) is typing.Literal and None in args:
+        some = _variants(hint, place)
+    else:
+        return None
+    return optional(some) if some and (None in args or type(None) in args) else some
+
+
+def _container(hint: Any, place: _Place) -> Reader | None:
+    """The reader of a list, a set, a tuple or a dict, with or without what it holds."""
+    origin, below = typing.get_origin(hint) or hint, place.below()
+    args = typing.get_args(hint)
+    try:
+        kind = _LISTS.get(origin)
+    except TypeError:
+        return None
+    if kind:
+        return list_of(_reader_of(args[0] if args else Any, below), kind)
+    if origin is tuple and (args[1:] == (...,) or hint in (tuple, typing.Tuple)):
+        return list_of(_reader_of(args[0] if args else Any, below), tuple)
+    if origin is tuple and args and args != ((),):
+        return tuple_of([_reader_of(arg, below) for arg in args])
+    if origin in _DICTS:
+        key, value = (_reader_of(arg, below) for arg in args or (str, Any))
+        return dict_of(key, value) if key.of_text else None
+    return None
+
+
+def _annotated(hint: Any, place: _Place) -> Reader:
+    marker = next((word for word in hint.__metadata__ if isinstance(word, Shape)), None)
+    if marker is None:
+        return _reader_of(hint.__origin__, place)
+    try:
+        explain(marker.text, "")
+    except QuerystringError as error:
+        raise place.error(f"the shape {marker.text!r} is rejected: {error}") from None
+    if marker.make is None:
+        return _reader_of(hint.__origin__, place)._replace(shape=marker.text)
+
+    def made(value: Any) -> Any:
+        try:
+            return marker.make(value)
+        except ValueError as error:
+            raise Unread(str(error)) from error
+
+    return Reader(marker.text, made, made if marker.text == "text" else None)
+
+
+def _reader_of(hint: Any, place: _Place) -> Reader:
+    origin = typing.get_origin(hint)
+    if origin is typing.Annotated:
+        return _annotated(hint, place)
+    if origin in _marks("Required", "NotRequired", "ReadOnly", "Final"):
+        return _reader_of(typing.get_args(hint)[0], place)
+    if isinstance(hint, dataclasses.InitVar):
+        return _reader_of(hint.type, place)
+    if isinstance(hint, TypeVar):
+        return _reader_of(place.types.get(hint) or hint.__bound__ or Any, place)
+    if hasattr(hint, "__supertype__"):  # a NewType
+        return _reader_of(hint.__supertype__, place)
+    if hint is Any or hint is None:
+        return _PLAIN[object if hint is Any else type(None)]
+    if place.keys > _MOST_LEVELS:
+        raise place.error(f"{hint!r} nests deeper than a shape may")
+    hint = _filled(hint, place.types)
+    plain = _PLAIN.get(hint) if isinstance(hint, type) else None
+    reader = plain or _union(hint, place) or _variants(hint, place) or _container(hint, place) or _class(hint, place)
     if reader is None:
-        raise TypeError(f"no shape reads {hint!r}")
+        raise place.error(f"no shape reads {hint!r}")
     return reader
 
 
-_whole_reader = functools.lru_cache(maxsize=None)(_reader_of)
+@functools.lru_cache(maxsize=1024)
+def _whole_reader(cls: Any, max_depth: int = 5) -> Reader:
+    return _reader_of(cls, _Place("", (), 0, {}, min(max_depth + 1, _MOST_KEYS), [0]))
 
 
 def shape_of(cls: Any) -> str:
-    """Returns the shape of a dataclass, a TypedDict, or another type, in the notation of the library.
+    """Returns the shape of a dataclass, a TypedDict, a NamedTuple, or another type, in the notation of the library.
 
     | type | shape |
     |---|---|
     | `str`, `bytes`, `bool`, `int`, `None`, `Any` | `text`, `bytes`, `bool`, `i64`, `unit`, `any` |
-    | `list[T]`, `tuple[T, ...]` | a list |
+    | `float`, `Decimal` | `text`, which has to be a number as in JSON |
+    | `date`, `time`, `datetime`, `UUID` | `text`, as in ISO 8601, and as `str(uuid)` |
+    | `list[T]`, `Sequence[T]`, `set[T]`, `frozenset[T]`, `tuple[T, ...]` | a list |
     | `tuple[T, U]` | a tuple |
-    | `dict[K, V]` | a map; a key is `str`, `int`, `bool`, or the next line |
-    | an `Enum` or a `Literal` of strings | one of these strings |
+    | `dict[K, V]`, `Mapping[K, V]` | a map; a key is anything that is read from a text |
+    | an `Enum` or a `Literal` of strings, integers and bools | one of these, as a text |
     | `Optional[T]` | a value that may be absent |
-    | `Annotated[T, "u8"]` | the shape that the string is |
-    | a dataclass, a `TypedDict` | a struct; a field with a default, or that isn't required, may be left out |
+    | `int \\| str`, and other unions of what is read from a text | `text`, which the types try in turn, `str` last |
+    | `Annotated[T, Shape("u8")]` | that shape |
+    | a dataclass, a `TypedDict`, a `NamedTuple` | a struct; a field with a default, or that isn't required, may be left out |
 
-    Any other type is a TypeError, and so is a class that holds itself.
+    A list or dict without more holds `Any`. A NewType is what it stands for. A field of a dataclass with `metadata={"name": "x"}` is named
+    `x` in the querystring. The shape of a class that holds itself goes as deep as `max_depth`, and 13 at most.
+
+    Any other type is a TypeError, which names the field.
 
         >>> shape_of(dict[str, list[int]])
         'map(text, [i64])'
@@ -184,5 +308,12 @@ def read_as(cls: type[T], query: Text, **settings: Unpack[Settings]) -> T:
         >>> read_as(User, "name=John&ids[0]=1")
         User(name='John', ids=[1])
     """
-    reader = _whole_reader(cls)
-    return reader.make(read(reader.shape, query, **settings))
+    reader = _whole_reader(cls, settings.get("max_depth", 5))
+    value = read(reader.shape, query, **settings)
+    try:
+        return reader.make(value)
+    except Unread as unread:
+        error = QuerystringError(Status.MISMATCH, 0, str(unread))
+        first, *others = [encode(str(key), settings.get("form", False)) for key in reversed(unread.path)] or [""]
+        error.path = first + "".join(f"[{key}]" for key in others)
+        raise error from None

@@ -2,6 +2,9 @@
 
 use crate::{Error, ErrorKind, Settings};
 
+/// The version of the library that this crate is written for, as `QS_VERSION` has it. A later one of the same major version is right too.
+const WANTED: u32 = 1 << 24 | 1 << 16 | 3 << 8 | 1;
+
 const OK: u32 = 0;
 const TOO_SMALL: u32 = 1;
 const ABSENT: u32 = 12;
@@ -49,6 +52,21 @@ extern "C" {
     fn qs_write(settings: *const Settings, json: *const u8, json_size: usize, out: *mut u8, out_size: usize, answer: *mut Answer) -> u32;
     fn qs_encode(form: bool, bytes: *const u8, bytes_size: usize, out: *mut u8, out_size: usize, answer: *mut Answer) -> u32;
     fn qs_decode(bytes: *const u8, bytes_size: usize, out: *mut u8, out_size: usize, answer: *mut Answer) -> u32;
+    fn qs_version() -> u32;
+}
+
+fn test_version() -> Result<(), Error> {
+    // SAFETY: the call has no arguments.
+    let version = unsafe { qs_version() };
+    if version >> 24 == WANTED >> 24 && version >= WANTED && version & 255 >= WANTED & 255 {
+        return Ok(());
+    }
+    Err(Error {
+        kind: ErrorKind::WrongVersion,
+        position: 0,
+        path: String::new(),
+        message: format!("the library serde_qs has the version {version:#010x}, and {WANTED:#010x} or later is needed"),
+    })
 }
 
 pub(crate) fn get(settings: &Settings, path: &[u8], input: &[u8]) -> Result<Option<Vec<u8>>, Error> {
@@ -105,6 +123,7 @@ pub(crate) fn decode(bytes: &[u8]) -> Result<Vec<u8>, Error> {
 
 /// The result of a call whose input has `given` bytes. If the buffer is too small, the call is made again with a larger one.
 fn result(given: usize, mut call: impl FnMut(&mut [u8], &mut Answer) -> u32) -> Result<Vec<u8>, Error> {
+    test_version()?;
     let mut out = vec![0; 256 + 2 * given];
     let mut answer = Answer::default();
     let mut status = call(&mut out, &mut answer);

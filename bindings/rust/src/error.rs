@@ -29,6 +29,8 @@ pub enum ErrorKind {
     TooLong = 11,
     /// The path isn't a key.
     BadPath = 13,
+    /// The library is of another version than this crate is written for.
+    WrongVersion = u32::MAX - 1,
     /// The library returned a status that this version of the crate doesn't know.
     Unknown = u32::MAX,
 }
@@ -55,8 +57,8 @@ impl ErrorKind {
 /// Why a call failed. Its `Display` is a text for a user.
 ///
 /// ```
-/// let error = serde_qs::parse("user=John&user[ids][0]=1").unwrap_err();
-/// assert_eq!(error.kind(), serde_qs::ErrorKind::Parse);
+/// let error = serde_qs_proved::parse("user=John&user[ids][0]=1").unwrap_err();
+/// assert_eq!(error.kind(), serde_qs_proved::ErrorKind::Parse);
 /// assert_eq!(error.position(), 16);
 /// ```
 #[derive(Clone, Debug, PartialEq, Eq)]
@@ -81,7 +83,7 @@ impl Error {
     /// Returns the path to the part of the querystring that a shape doesn't read. It is empty if there is no such part.
     ///
     /// ```
-    /// let error = serde_qs::read("{user: {age: u8}}", "user[age]=300").unwrap_err();
+    /// let error = serde_qs_proved::read("{user: {age: u8}}", "user[age]=300").unwrap_err();
     /// assert_eq!(error.path(), "user[age]");
     /// ```
     pub fn path(&self) -> &str {

@@ -1,25 +1,14 @@
-//! Nested querystrings, read into JSON and written from JSON by a verified library.
-//!
-//! ```
-//! let json = serde_qs::read("{user: {name: text, ids: [u8]}}", "user[name]=John&user[ids][0]=1")?;
-//! assert_eq!(json, r#"{"user":{"name":"John","ids":[1]}}"#);
-//! assert_eq!(serde_qs::write(&json)?, "user[name]=John&user[ids][0]=1");
-//! # Ok::<(), serde_qs::Error>(())
-//! ```
-//!
-//! A shape says what is read. `LIBRARY.md` describes its notation and the JSON. It is installed with the library, in
-//! `share/doc/serde_qs`. The functions of this page use the default settings; [`Settings`] has methods of the same names.
-//!
-//! With the feature `serde`, `from_str` and `to_string` read and write types that derive serde's traits.
-//!
-//! # Building
-//!
-//! Install the library with `./install PREFIX` at the top of its repository. The build script finds it by `pkg-config`, or in the
-//! folder `SERDE_QS_DIR`, which is that `PREFIX`. It links the static library, or the shared one if `SERDE_QS_SHARED` is set.
+#![doc = include_str!("../README.md")]
 #![warn(missing_docs)]
+
+// The build script doesn't find the library. The documentation needs none.
+#[cfg(all(serde_qs_missing, not(doc)))]
+compile_error!(env!("SERDE_QS_MISSING"));
 
 mod calls;
 mod error;
+#[cfg(feature = "serde")]
+mod json;
 mod settings;
 #[cfg(feature = "serde")]
 mod typed;
@@ -41,9 +30,9 @@ pub use typed::{from_str, to_string};
 /// [`ErrorKind::Mismatch`] if the path leads to a map; [`ErrorKind::OutOfMemory`].
 ///
 /// ```
-/// assert_eq!(serde_qs::get("user[name]", "user[name]=John+B.")?, Some(b"John B.".to_vec()));
-/// assert_eq!(serde_qs::get("user[age]", "user[name]=John+B.")?, None);
-/// # Ok::<(), serde_qs::Error>(())
+/// assert_eq!(serde_qs_proved::get("user[name]", "user[name]=John+B.")?, Some(b"John B.".to_vec()));
+/// assert_eq!(serde_qs_proved::get("user[age]", "user[name]=John+B.")?, None);
+/// # Ok::<(), serde_qs_proved::Error>(())
 /// ```
 pub fn get(path: impl AsRef<[u8]>, query: impl AsRef<[u8]>) -> Result<Option<Vec<u8>>, Error> {
     Settings::default().get(path, query)
@@ -57,8 +46,8 @@ pub fn get(path: impl AsRef<[u8]>, query: impl AsRef<[u8]>) -> Result<Option<Vec
 /// parsed, but can't be read; [`ErrorKind::OutOfMemory`].
 ///
 /// ```
-/// assert_eq!(serde_qs::parse("a[b]=1")?, r#"{"a":{"b":"1"}}"#);
-/// # Ok::<(), serde_qs::Error>(())
+/// assert_eq!(serde_qs_proved::parse("a[b]=1")?, r#"{"a":{"b":"1"}}"#);
+/// # Ok::<(), serde_qs_proved::Error>(())
 /// ```
 pub fn parse(query: impl AsRef<[u8]>) -> Result<String, Error> {
     Settings::default().parse(query)
@@ -71,11 +60,11 @@ pub fn parse(query: impl AsRef<[u8]>) -> Result<String, Error> {
 /// [`ErrorKind::BadShape`], with its position, if the text isn't a shape; otherwise the errors of [`parse`].
 ///
 /// ```
-/// assert_eq!(serde_qs::read("{age: u8}", "age=24")?, r#"{"age":24}"#);
+/// assert_eq!(serde_qs_proved::read("{age: u8}", "age=24")?, r#"{"age":24}"#);
 ///
-/// let error = serde_qs::read("{age: u8}", "age=x").unwrap_err();
-/// assert_eq!(error.kind(), serde_qs::ErrorKind::Mismatch);
-/// # Ok::<(), serde_qs::Error>(())
+/// let error = serde_qs_proved::read("{age: u8}", "age=x").unwrap_err();
+/// assert_eq!(error.kind(), serde_qs_proved::ErrorKind::Mismatch);
+/// # Ok::<(), serde_qs_proved::Error>(())
 /// ```
 pub fn read(shape: &str, query: impl AsRef<[u8]>) -> Result<String, Error> {
     Settings::default().read(shape, query)
@@ -89,10 +78,10 @@ pub fn read(shape: &str, query: impl AsRef<[u8]>) -> Result<String, Error> {
 /// [`ErrorKind::BadShape`], with its position, if the text isn't a shape; [`ErrorKind::OutOfMemory`].
 ///
 /// ```
-/// let (path, line) = serde_qs::explain("{user: {age: u8}}", "user[age]=300")?.unwrap();
+/// let (path, line) = serde_qs_proved::explain("{user: {age: u8}}", "user[age]=300")?.unwrap();
 /// assert_eq!(path, "user[age]");
 /// assert_eq!(line, "user[age]: expected u8, found the text \"300\"");
-/// # Ok::<(), serde_qs::Error>(())
+/// # Ok::<(), serde_qs_proved::Error>(())
 /// ```
 pub fn explain(shape: &str, query: impl AsRef<[u8]>) -> Result<Option<(String, String)>, Error> {
     Settings::default().explain(shape, query)
@@ -106,8 +95,8 @@ pub fn explain(shape: &str, query: impl AsRef<[u8]>) -> Result<Option<(String, S
 /// settings allow; [`ErrorKind::OutOfMemory`].
 ///
 /// ```
-/// assert_eq!(serde_qs::write(r#"{"a":[1,2]}"#)?, "a[0]=1&a[1]=2");
-/// # Ok::<(), serde_qs::Error>(())
+/// assert_eq!(serde_qs_proved::write(r#"{"a":[1,2]}"#)?, "a[0]=1&a[1]=2");
+/// # Ok::<(), serde_qs_proved::Error>(())
 /// ```
 pub fn write(json: &str) -> Result<String, Error> {
     Settings::default().write(json)
@@ -120,8 +109,8 @@ pub fn write(json: &str) -> Result<String, Error> {
 /// [`ErrorKind::OutOfMemory`].
 ///
 /// ```
-/// assert_eq!(serde_qs::encode("100% a+b")?, "100%25+a%2Bb");
-/// # Ok::<(), serde_qs::Error>(())
+/// assert_eq!(serde_qs_proved::encode("100% a+b")?, "100%25+a%2Bb");
+/// # Ok::<(), serde_qs_proved::Error>(())
 /// ```
 pub fn encode(bytes: impl AsRef<[u8]>) -> Result<String, Error> {
     Settings::default().encode(bytes)
@@ -134,8 +123,8 @@ pub fn encode(bytes: impl AsRef<[u8]>) -> Result<String, Error> {
 /// [`ErrorKind::OutOfMemory`].
 ///
 /// ```
-/// assert_eq!(serde_qs::decode("a%5Bb%5D=1")?, b"a[b]=1");
-/// # Ok::<(), serde_qs::Error>(())
+/// assert_eq!(serde_qs_proved::decode("a%5Bb%5D=1")?, b"a[b]=1");
+/// # Ok::<(), serde_qs_proved::Error>(())
 /// ```
 pub fn decode(bytes: impl AsRef<[u8]>) -> Result<Vec<u8>, Error> {
     calls::decode(bytes.as_ref())

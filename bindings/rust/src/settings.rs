@@ -22,11 +22,11 @@ pub enum ArrayFormat {
 /// [`ErrorKind::TooLong`](crate::ErrorKind::TooLong).
 ///
 /// ```
-/// use serde_qs::Settings;
+/// use serde_qs_proved::Settings;
 ///
 /// let form = Settings { form: true, ..Settings::default() };
 /// assert_eq!(form.parse("a%5Bb%5D=1")?, r#"{"a":{"b":"1"}}"#);
-/// # Ok::<(), serde_qs::Error>(())
+/// # Ok::<(), serde_qs_proved::Error>(())
 /// ```
 #[repr(C)]
 #[derive(Clone, Copy, Debug, PartialEq, Eq)]
@@ -51,20 +51,30 @@ pub struct Settings {
 
 impl Default for Settings {
     fn default() -> Settings {
-        Settings {
-            max_depth: 5,
-            form: false,
-            array_format: ArrayFormat::Indexed,
-            reject_duplicates: false,
-            max_length: 0,
-            max_pairs: 0,
-            max_output: 0,
-            reserved: 0,
-        }
+        Settings::QUERY
     }
 }
 
 impl Settings {
+    const QUERY: Settings = Settings {
+        max_depth: 5,
+        form: false,
+        array_format: ArrayFormat::Indexed,
+        reject_duplicates: false,
+        max_length: 0,
+        max_pairs: 0,
+        max_output: 0,
+        reserved: 0,
+    };
+
+    /// For the forms and queries of strangers: form mode, where browsers may encode brackets; at most 1 MiB and 4,096 pairs.
+    ///
+    /// ```
+    /// assert_eq!(serde_qs_proved::Settings::WEB.parse("a%5Bb%5D=1")?, r#"{"a":{"b":"1"}}"#);
+    /// # Ok::<(), serde_qs_proved::Error>(())
+    /// ```
+    pub const WEB: Settings = Settings { form: true, max_length: 1 << 20, max_pairs: 4096, ..Settings::QUERY };
+
     /// Gets the decoded value at a path of the querystring, as [`get`](crate::get) does.
     pub fn get(&self, path: impl AsRef<[u8]>, query: impl AsRef<[u8]>) -> Result<Option<Vec<u8>>, Error> {
         calls::get(self, path.as_ref(), query.as_ref())

@@ -1,5 +1,5 @@
-/* A line of a table of calls: a call, its settings, a shape or a path, and a text, with tabs between them. The settings are `query` or
- * `form`, and words after a blank: `depth=N`, `empty` or `unindexed`, `reject`, `length=N`, `pairs=N` and `output=N`. */
+/* A line of a table of calls: a call, its settings, a shape or a path, and a text, with tabs between them. The settings are `query`, `form`
+ * or `web`, and words after a blank: `depth=N`, `empty` or `unindexed`, `reject`, `length=N`, `pairs=N` and `output=N`. */
 #include <serde_qs.h>
 #include <stdlib.h>
 #include <string.h>
@@ -18,7 +18,9 @@ static qs_settings settings_of(char *words) {
     qs_settings settings = qs_default;
     while (*words != '\0') {
         const char *word = field(&words, ' ');
-        if (strcmp(word, "form") == 0)
+        if (strcmp(word, "web") == 0)
+            settings = qs_web;
+        else if (strcmp(word, "form") == 0)
             settings.form = true;
         else if (strcmp(word, "empty") == 0)
             settings.array_format = QS_EMPTY_INDEXED;

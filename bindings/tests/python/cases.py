@@ -1,7 +1,7 @@
 """Makes the call of each line of the standard input, and prints its status, its position and its text.
 
-A line is a call, its settings, a shape or a path, and a text, with tabs between them. The settings are `query` or `form`, and words
-after a blank: `depth=N`, `empty` or `unindexed`, `reject`, `length=N`, `pairs=N` and `output=N`.
+A line is a call, its settings, a shape or a path, and a text, with tabs between them. The settings are `query`, `form` or `web`, and
+words after a blank: `depth=N`, `empty` or `unindexed`, `reject`, `length=N`, `pairs=N` and `output=N`.
 """
 
 import json
@@ -13,6 +13,7 @@ from serde_qs import _calls
 WORDS = {
     "query": {},
     "form": {"form": True},
+    "web": dict(serde_qs.WEB),
     "empty": {"array_format": serde_qs.EMPTY_INDEXED},
     "unindexed": {"array_format": serde_qs.UNINDEXED},
     "reject": {"reject_duplicates": True},
@@ -56,4 +57,4 @@ for line in sys.stdin:
             result = serde_qs.decode(text).decode()
         print(f"0\t{position}\t{result}")
     except serde_qs.QuerystringError as error:
-        print(f"{error.status}\t{error.position}\t{error}")
+        print(f"{error.status:d}\t{error.position}\t{error}")

@@ -19,7 +19,7 @@ class Address:
 @dataclasses.dataclass
 class User:
     name: str
-    age: typing.Annotated[int, "u8"]
+    age: typing.Annotated[int, serde_qs.Shape("u8")]
     address: typing.Optional[Address]
     emails: typing.List[str] = dataclasses.field(default_factory=list)
 
@@ -32,7 +32,7 @@ class Form:
 def answer(body):
     """The status and the text for what was sent."""
     try:
-        user = serde_qs.read_as(Form, body, form=True).user
+        user = serde_qs.read_as(Form, body, **serde_qs.WEB).user
     except serde_qs.QuerystringError as error:
         return 400, f"{error.path}: {error}\n"
     return 200, f"{user.name}, {user.age}, of {user.address.city}: {', '.join(user.emails)}\n"

@@ -1,14 +1,15 @@
 //! Makes the call of each line of the standard input, and prints its status, its position and its text.
-//! A line is a call, its settings, a shape or a path, and a text, with tabs between them. The settings are `query` or `form`, and words
-//! after a blank: `depth=N`, `empty` or `unindexed`, `reject`, `length=N`, `pairs=N` and `output=N`.
+//! A line is a call, its settings, a shape or a path, and a text, with tabs between them. The settings are `query`, `form` or `web`,
+//! and words after a blank: `depth=N`, `empty` or `unindexed`, `reject`, `length=N`, `pairs=N` and `output=N`.
 
-use serde_qs::{ArrayFormat, Settings, decode};
+use serde_qs_proved::{ArrayFormat, Settings, decode};
 
 fn settings_of(words: &str) -> Settings {
     let mut settings = Settings::default();
     for word in words.split(' ') {
         match word {
             "form" => settings.form = true,
+            "web" => settings = Settings::WEB,
             "empty" => settings.array_format = ArrayFormat::EmptyIndexed,
             "unindexed" => settings.array_format = ArrayFormat::Unindexed,
             "reject" => settings.reject_duplicates = true,

@@ -38,7 +38,7 @@ manifest=$prefix/share/serde_qs/manifest
 
 # Removes what the manifest lists: files, and those folders that were made for them, if they are empty.
 uninstall() {
-    sort -r "$to$manifest" | while IFS= read -r path; do
+    LC_ALL=C sort -r "$to$manifest" | while IFS= read -r path; do
         case $path in
         */) rmdir -- "$to$path" 2>/dev/null || : ;;
         *) rm -f -- "$to$path" ;;

@@ -20,7 +20,7 @@ try_files() {
 
 try_packages() {
     local word
-    same 'the packages' "$(cd "$packages" && ls | sed "s/$version/V/" | tr '\n' ' ')" \
+    same 'the packages' "$(cd "$packages" && LC_ALL=C ls | sed "s/$version/V/" | tr '\n' ' ')" \
         'SHA256SUMS libserde-qs_V-1_amd64.deb serde_qs-V-linux-x86_64.tar.gz serde_qs-V-py3-none-manylinux2014_x86_64.whl serde_qs_proved-0.1.0.crate '
     runs 'their checksums' env -C "$packages" sha256sum -c --quiet SHA256SUMS
     runs 'the same packages again' "$root/bindings/package" again
@@ -64,7 +64,7 @@ try_options() {
     runs 'install into an odd folder' "$root/install" "$odd" --libdir=lib64/x
     same 'the folder of the libraries' "$(sed -n 's/^libdir=//p' "$odd/lib64/x/pkgconfig/serde_qs.pc")" "$odd/lib64/x"
     runs 'install over it' "$root/install" --libdir lib "$odd"
-    same 'what was installed first' "$(ls "$odd" | tr '\n' ' ')" 'include kept lib share '
+    same 'what was installed first' "$(LC_ALL=C ls "$odd" | tr '\n' ' ')" 'include kept lib share '
     ! command -v pkg-config >/dev/null || same 'paths for pkg-config' "$(PKG_CONFIG_PATH=$odd/lib/pkgconfig pkg-config --cflags --libs serde_qs | xargs printf '%s\n')" \
         "-I$odd/include"$'\n'"-L$odd/lib"$'\n-lserde_qs'
     try_cmake "$odd"

@@ -2,8 +2,8 @@
 
 use crate::case::Case;
 use crate::types::{
-    Account, Adjacent, Choice, Contact, Folder, Labels, Listing, Lists, Maps, Named, Numbers, Order,
-    Payment, Profile, Shown, Spot, Tagged, Texts, Trip, Units, Wide,
+    Account, Adjacent, Choice, Contact, Folder, Labels, Listing, Lists, Maps, Named, Numbers,
+    Order, Payment, Profile, Shown, Spot, Tagged, Texts, Trip, Units, Wide,
 };
 use qs_callers as own;
 use qs_serde::{ArrayFormat, Error, PathError, Result, explain_str, to_string_with};

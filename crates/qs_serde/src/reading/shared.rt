@@ -99,8 +99,8 @@ impl<'t, 'qs> TreeFormat<'t, 'qs> {
         };
     }
 
-    // Before the first key of a map: fields that share their map with others aren't those of an untagged enum's variant. Such a variant, and
-    // that of an enum with a content, has fields only in a map.
+    // Tests a map before its first key. A variant of an untagged enum, or of an enum with a content, has fields only in a map. Fields that
+    // share their map with others belong to no such variant.
     fn enter(&mut self, names: &[Name<'_>]) -> Result<()>
         ensures settles { OnOk result (self.new ≡ record self.old { is_tried = tried_after names.now self.old }) }
         ensures enters { OnOk result (not (needs_map names.now self.old.asked) || is_map (tree_of self.old.top.now) ≡ true) }

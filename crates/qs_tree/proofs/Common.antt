@@ -33,7 +33,7 @@ pub use Rattle.qs_tree.specs.escape.Classes.{is_ampersand, is_encoded, is_escape
 pub use Rattle.qs_tree.specs.internal.Parsing.{Returns, grown}
 pub use Rattle.qs_tree.specs.internal.build.Adding.{Adds, AddGives, IsRejected, entries_below, second}
 pub use Rattle.qs_tree.specs.internal.build.Builder.{HasNoMap, IsNoMap, Takes, as_builders, built_entries, built_tree, child, entries_held, entries_seen, fresh, unsorted_entries}
-pub use Rattle.qs_tree.specs.internal.build.Descent.{IsBarred, IsOpen, Leads, put_all_back, put_back}
+pub use Rattle.qs_tree.specs.internal.build.Descent.{AreKeys, IsFresh, IsOpen, IsWithoutMaps, open_entries, put_all_back, put_back, whole_tree}
 pub use Rattle.qs_tree.specs.internal.build.Finishing.{IsOpened, built_pairs, entries_map_count, left_pairs, level_pairs, maps_left, with_node}
 pub use Rattle.qs_tree.specs.internal.build.Unsorted.{AreLeaves, entries_of_leaves, is_leaf, leaf_held, leaf_pairs}
 pub use Rattle.qs_tree.specs.internal.escape.Copying.{swapped}

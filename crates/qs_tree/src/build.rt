@@ -1,10 +1,10 @@
 //! From pairs to a tree: the tree under construction, adding a pair to it, and finishing it.
 
-pub(crate) mod add;
+mod add;
 mod add_to_value;
 pub(crate) mod builder;
 pub(crate) mod conflict;
-mod descent;
+pub(crate) mod descent;
 mod distinct;
 mod dropping;
 mod finishing;

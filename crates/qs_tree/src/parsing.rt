@@ -8,13 +8,12 @@ ghost use Rattle.qs_spec.specs.internal.InPlace as in_place;
 ghost use Rattle.qs_tree.specs.tree.Views.{tree_of};
 ghost use Rattle.qs_tree.specs.internal.scan.Pairs.{IsRootValue, pair_of};
 ghost use Rattle.qs_tree.specs.internal.scan.Cursor.{left, KnowsEnd, in_all};
-ghost use Rattle.qs_tree.specs.internal.build.Builder.{built_tree, fresh, HasNoMap};
+ghost use Rattle.qs_tree.specs.internal.build.Descent.{whole_tree, IsFresh, IsWithoutMaps};
 ghost use Rattle.qs_tree.specs.internal.Parsing.{grown, FindsTree};
 ghost use Rattle.qs_tree.specs.Error.{IfParse};
 ghost use Rattle.qs_tree.specs.Parsing.{Parses, AllocatesNothing};
 
-use crate::build::add::add_pair;
-use crate::build::builder::TreeBuilder;
+use crate::build::descent::OpenTree;
 use crate::config::Config;
 use crate::error::Result;
 use crate::parsing::scan_error::{ScanError, add_error, syntax_error};
@@ -106,7 +105,7 @@ fn parse_tree<'qs>(
     ensures end { IfOk result (λ _. in_all cursor.new ≡ cursor.new.steps) }
     ensures no_allocation { AllocatesNothing cursor.old.rest.now → IsOk result }
 {
-    let mut tree = TreeBuilder::fresh();
+    let mut tree = OpenTree::new(alloc);
     let mut pair = Pair::new(alloc);
     match scan(alloc, cursor, max_depth, &mut tree, &mut pair) {
         Ok(()) => Ok(tree.finish(alloc)?),
@@ -120,15 +119,15 @@ fn scan<'qs>(
     alloc: Global,
     cursor: &mut Cursor<'qs>,
     max_depth: usize,
-    tree: &mut TreeBuilder<'qs>,
+    tree: &mut OpenTree<'qs>,
     pair: &mut Pair<'qs>,
 ) -> Result<(), ScanError>
     requires end { KnowsEnd cursor.old }
-    ensures tree { FindsTree (λ _. built_tree tree.new) (grown max_depth (left cursor.old) (built_tree tree.old)) result }
+    ensures tree { FindsTree (λ _. whole_tree tree.new) (grown max_depth (left cursor.old) (whole_tree tree.old)) result }
     ensures steps { in_all cursor.new ≡ in_all cursor.old }
     ensures fewer { length cursor.new.rest.now ≤ length cursor.old.rest.now }
     ensures end { IfOk result (λ _. in_all cursor.new ≡ cursor.new.steps) }
-    ensures no_allocation { AllocatesNothing cursor.old.rest.now → tree.old ≡ fresh → IsOkAnd result (λ _. HasNoMap tree.new) }
+    ensures no_allocation { AllocatesNothing cursor.old.rest.now → IsFresh tree.old → IsOkAnd result (λ _. IsWithoutMaps tree.new) }
 {
     loop {
         let item = match parse_item(alloc, cursor, max_depth, pair) {
@@ -146,15 +145,11 @@ fn scan<'qs>(
 
 // Adds one pair to the tree.
 #[inline(always)]
-fn add<'qs>(
-    alloc: Global,
-    tree: &mut TreeBuilder<'qs>,
-    pair: &mut Pair<'qs>,
-) -> Result<(), ScanError>
-    ensures tree { let p = pair_of pair.old in FindsTree (λ _. built_tree tree.new) (in_place.add p.path p.push p.leaf (built_tree tree.old)) result }
-    ensures fresh { IsRootValue pair.old → tree.old ≡ fresh → IsOkAnd result (λ _. HasNoMap tree.new) }
+fn add<'qs>(alloc: Global, tree: &mut OpenTree<'qs>, pair: &mut Pair<'qs>) -> Result<(), ScanError>
+    ensures tree { let p = pair_of pair.old in FindsTree (λ _. whole_tree tree.new) (in_place.add p.path p.push p.leaf (whole_tree tree.old)) result }
+    ensures fresh { IsRootValue pair.old → IsFresh tree.old → IsOkAnd result (λ _. IsWithoutMaps tree.new) }
 {
-    match add_pair(alloc, tree, pair) {
+    match tree.add(alloc, pair) {
         Ok(()) => Ok(()),
         Err(error) => Err(add_error(error)),
     }

@@ -1,22 +1,17 @@
-//! Adding a pair to a tree, in place.
-ghost use Rattle.std.specs.Prelude.{◌≡◌, ◌+◌, ◌<◌, ◌≤◌, length, drop, false, IsOkAnd};
+//! Adding a pair near the end of its path, in place.
+ghost use Rattle.std.specs.Prelude.{◌≡◌, ◌+◌, ◌<◌, ◌≤◌, length, drop, false, IfOk, IsTrue, IsOkAnd};
 ghost use Rattle.qs_spec.specs.Tree.{empty_segment, mapping};
 ghost use Rattle.qs_spec.specs.internal.InPlace as in_place;
 ghost use Rattle.qs_spec.specs.internal.InPlace.{add, add_to_leaves, update};
 ghost use Rattle.qs_tree.specs.declared.scan.pair.Manner.TheVariants.{Assign};
 ghost use Rattle.qs_tree.specs.internal.build.Builder.{built_tree, built_entries, entries_seen, fresh, unsorted_entries, HasNoMap};
-ghost use Rattle.std.specs.List.Sorted.{IsStrictlySortedBy};
-ghost use Rattle.std.specs.Map.{keys_of};
-ghost use Rattle.qs_tree.specs.tree.Keys.{key_cmp};
-ghost use Rattle.qs_tree.specs.internal.tree.Places.{IsPlaced};
-ghost use Rattle.qs_tree.specs.tree.Views.{parsed_segment_of_key};
-ghost use Rattle.qs_tree.specs.internal.scan.Pairs.{IsRootValue, leaf_of, is_push, pair_of, path_of};
-ghost use Rattle.qs_tree.specs.internal.build.Adding.{AddGives};
+ghost use Rattle.qs_tree.specs.internal.scan.Pairs.{IsRootValue, leaf_of, is_push, path_of};
+ghost use Rattle.qs_tree.specs.internal.build.Adding.{AddGives, Adds};
 
-use crate::build::add_to_value::{add_at_end, add_to_leaves, add_to_value};
-use crate::build::builder::{MapBuilder, TreeBuilder, goes_between, into_tree, place_among};
+use crate::build::add_to_value::{add_at_end, add_to_leaves, add_to_value, chain_of};
+use crate::build::builder::{MapBuilder, TreeBuilder, goes_between, insert, place_among};
 use crate::build::conflict::{AddError, ConflictKind};
-use crate::build::descent::{ParentMap, descend, map_of, rebuild};
+use crate::build::descent::map_of;
 use crate::build::unsorted::Unsorted;
 use crate::scan::pair::{Leaf, Manner, Pair};
 use crate::tree::entries::SortedEntries;
@@ -25,82 +20,185 @@ use std::alloc::Global;
 use std::collections::BTreeMap;
 use std::mem;
 
-/// How many keys of a path are followed by recursion. Below them a zipper is used, which allocates and takes constant stack.
-const LEVELS: usize = 64;
-
-/// Adds a pair to a tree, at the end of its path. The keys and the leaf are taken out of the pair.
+/// Adds a pair to the node at a level of its path, if that is near the end of the path.
 ///
-/// Returns an error if a node is in conflict with the pair, or if an allocation failed. The tree isn't used after that.
-/// Adding an assigned leaf with an empty path to an empty tree doesn't allocate.
+/// Returns `false`, and changes neither the tree nor the pair, if the node is a map that has to be opened at the next key. Returns an
+/// error if a node is in conflict with the pair, or if an allocation failed. The node isn't used after that.
 #[inline(always)]
-pub(crate) fn add_pair<'qs>(
-    alloc: Global,
-    tree: &mut TreeBuilder<'qs>,
-    pair: &mut Pair<'qs>,
-) -> Result<(), AddError>
-    ensures added { let p = pair_of pair.old in AddGives (λ _. built_tree tree.new) (add p.path p.push p.leaf (built_tree tree.old)) result }
-    ensures fresh { IsRootValue pair.old → tree.old ≡ fresh → IsOkAnd result (λ _. HasNoMap tree.new) }
-{
-    add_along(alloc, tree, pair, 0)
-}
-
-// Adds a pair to the node at a level of its path.
-#[cycle(adding)]
-#[inline(always)]
-fn add_along<'qs>(
+pub(crate) fn add_near<'qs>(
     alloc: Global,
     node: &mut TreeBuilder<'qs>,
     pair: &mut Pair<'qs>,
     level: usize,
-) -> Result<(), AddError>
+) -> Result<bool, AddError>
     requires { level ≤ length pair.old.path }
-    ensures added { let push = is_push pair.old.manner in let path = path_of (drop level pair.old.path) in
-        AddGives (λ _. built_tree node.new) (add path push (leaf_of pair.old.leaf) (built_tree node.old)) result }
-    ensures fresh { IsRootValue pair.old → level ≡ 0 → node.old ≡ fresh → IsOkAnd result (λ _. HasNoMap node.new) }
+    ensures added { let path = path_of (drop level pair.old.path) in let old = built_tree node.old in
+        Adds (add path (is_push pair.old.manner) (leaf_of pair.old.leaf) old) old (built_tree node.new) pair.old pair.new result }
+    ensures more { IfOk result (λ added. added ≡ false → level < length pair.new.path) }
+    ensures fresh { IsRootValue pair.old → level ≡ 0 → node.old ≡ fresh → IsOkAnd result (λ added. IsTrue added × HasNoMap node.new) }
 {
     if let TreeBuilder::Value(value) = node {
-        let left = pair.path.len() - level;
-        if 0 < left && left <= LEVELS {
-            match add_to_value(alloc, value, pair, level) {
-                Ok(true) => return Ok(()),
-                Ok(false) => {}
-                Err(error) => return Err(error),
-            }
+        if level < pair.path.len() && add_to_value(alloc, value, pair, level)? {
+            return Ok(true);
         }
     }
     add_further(alloc, node, pair, level)
 }
 
-// Adds a pair at the end of its path, or to a node that is unfinished or has to become a map under construction.
-#[cycle(adding)]
+// Adds a pair at the end of its path, or to a node that isn't finished.
 #[inline(never)]
 fn add_further<'qs>(
     alloc: Global,
     node: &mut TreeBuilder<'qs>,
     pair: &mut Pair<'qs>,
     level: usize,
-) -> Result<(), AddError>
+) -> Result<bool, AddError>
     requires { level ≤ length pair.old.path }
-    ensures added { let push = is_push pair.old.manner in let path = path_of (drop level pair.old.path) in
-        AddGives (λ _. built_tree node.new) (add path push (leaf_of pair.old.leaf) (built_tree node.old)) result }
-    ensures fresh { IsRootValue pair.old → level ≡ 0 → node.old ≡ fresh → IsOkAnd result (λ _. HasNoMap node.new) }
+    ensures added { let path = path_of (drop level pair.old.path) in let old = built_tree node.old in
+        Adds (add path (is_push pair.old.manner) (leaf_of pair.old.leaf) old) old (built_tree node.new) pair.old pair.new result }
+    ensures more { IfOk result (λ added. added ≡ false → level < length pair.new.path) }
+    ensures fresh { IsRootValue pair.old → level ≡ 0 → node.old ≡ fresh → IsOkAnd result (λ added. IsTrue added × HasNoMap node.new) }
 {
-    if level >= LEVELS {
-        return add_by_zipper(alloc, node, pair, level);
-    }
     if level == pair.path.len() {
-        return add_here(alloc, node, pair);
+        add_here(alloc, node, pair)?;
+        return Ok(true);
     }
     match node {
-        TreeBuilder::Map(map) => {
-            let key = pair.take_key(level);
-            add_at_key(alloc, map, key, pair, level + 1)
-        }
-        TreeBuilder::Unsorted(leaves) if pair.is_leaf_below(level) => {
-            add_unsorted(leaves, pair, level)
-        }
-        _ => add_out_of_order(alloc, node, pair, level),
+        TreeBuilder::Map(map) => add_in_builder(alloc, map, pair, level),
+        _ => add_in_no_order(node, pair, level),
     }
+}
+
+// Adds an assigned leaf to leaves in no order, or to a finished map of leaves. Returns `false`, and changes neither the tree nor the
+// pair, for any other.
+fn add_in_no_order<'qs>(
+    node: &mut TreeBuilder<'qs>,
+    pair: &mut Pair<'qs>,
+    level: usize,
+) -> Result<bool, AddError>
+    requires { level < length pair.old.path }
+    ensures { let path = path_of (drop level pair.old.path) in let old = built_tree node.old in
+        Adds (add path (is_push pair.old.manner) (leaf_of pair.old.leaf) old) old (built_tree node.new) pair.old pair.new result }
+{
+    if !pair.is_leaf_below(level) {
+        return Ok(false);
+    }
+    *node = mem::replace(node, TreeBuilder::fresh()).unsorted();
+    match node {
+        TreeBuilder::Unsorted(leaves) => {
+            add_unsorted(leaves, pair, level)?;
+            Ok(true)
+        }
+        _ => Ok(false),
+    }
+}
+
+// Adds a pair to a map that isn't finished. Returns `false`, and changes neither the tree nor the pair, if the map has to be opened.
+fn add_in_builder<'qs>(
+    alloc: Global,
+    map: &mut MapBuilder<'qs>,
+    pair: &mut Pair<'qs>,
+    level: usize,
+) -> Result<bool, AddError>
+    requires { level < length pair.old.path }
+    ensures { let path = path_of (drop level pair.old.path) in let old = mapping (built_entries map.old) in
+        Adds (add path (is_push pair.old.manner) (leaf_of pair.old.leaf) old) old (mapping (built_entries map.new)) pair.old pair.new result }
+{
+    match map {
+        MapBuilder::Vector(entries) => add_in_vector(alloc, entries, pair, level),
+        MapBuilder::Tree(tree) if pair.path.len() - level == 1 => {
+            add_last_in_tree(alloc, tree, pair, level)?;
+            Ok(true)
+        }
+        MapBuilder::Tree(tree) => add_in_tree(alloc, tree, pair, level),
+    }
+}
+
+// Adds a pair to a vector, as `add_in_builder` does.
+fn add_in_vector<'qs>(
+    alloc: Global,
+    entries: &mut SortedEntries<Key<'qs>, TreeBuilder<'qs>>,
+    pair: &mut Pair<'qs>,
+    level: usize,
+) -> Result<bool, AddError>
+    requires { level < length pair.old.path }
+    ensures { let path = path_of (drop level pair.old.path) in let old = mapping (entries_seen entries.old) in
+        Adds (add path (is_push pair.old.manner) (leaf_of pair.old.leaf) old) old (mapping (entries_seen entries.new)) pair.old pair.new result }
+{
+    let place = place_among(entries.as_slice(), pair.key(level));
+    match place {
+        Ok(at) => add_to_child(alloc, entries.at_mut(at), pair, level + 1),
+        Err(at) => {
+            if goes_between(place, entries.len()) {
+                return Ok(false);
+            }
+            let key = pair.take_key(level);
+            let value = chain_of(alloc, pair, level + 1)?;
+            entries.insert_at(at, key, TreeBuilder::Value(value))?;
+            Ok(true)
+        }
+    }
+}
+
+// Adds a pair with one key left to a search tree.
+fn add_last_in_tree<'qs>(
+    alloc: Global,
+    tree: &mut BTreeMap<Key<'qs>, TreeBuilder<'qs>>,
+    pair: &mut Pair<'qs>,
+    level: usize,
+) -> Result<(), AddError>
+    requires { length pair.old.path ≡ level + 1 }
+    ensures { let path = path_of (drop level pair.old.path) in
+        AddGives (λ _. mapping (entries_seen tree.new.entries)) (add path (is_push pair.old.manner) (leaf_of pair.old.leaf) (mapping (entries_seen tree.old.entries))) result }
+{
+    let key = pair.take_key(level);
+    let child = tree.entry(key)?.or_insert(TreeBuilder::fresh());
+    add_here(alloc, child, pair)
+}
+
+// Adds a pair to a search tree, as `add_in_builder` does.
+fn add_in_tree<'qs>(
+    alloc: Global,
+    tree: &mut BTreeMap<Key<'qs>, TreeBuilder<'qs>>,
+    pair: &mut Pair<'qs>,
+    level: usize,
+) -> Result<bool, AddError>
+    requires { level < length pair.old.path }
+    ensures { let path = path_of (drop level pair.old.path) in let old = mapping (entries_seen tree.old.entries) in
+        Adds (add path (is_push pair.old.manner) (leaf_of pair.old.leaf) old) old (mapping (entries_seen tree.new.entries)) pair.old pair.new result }
+{
+    match tree.get_mut(pair.key(level)) {
+        Some(child) => add_to_child(alloc, child, pair, level + 1),
+        None => {
+            let key = pair.take_key(level);
+            let value = chain_of(alloc, pair, level + 1)?;
+            insert(tree, key, TreeBuilder::Value(value))?;
+            Ok(true)
+        }
+    }
+}
+
+// Adds a pair to a node of a map that isn't finished. Returns `false`, and changes neither the tree nor the pair, if the map has to be
+// opened.
+fn add_to_child<'qs>(
+    alloc: Global,
+    child: &mut TreeBuilder<'qs>,
+    pair: &mut Pair<'qs>,
+    level: usize,
+) -> Result<bool, AddError>
+    requires { level ≤ length pair.old.path }
+    ensures { let path = path_of (drop level pair.old.path) in let old = built_tree child.old in
+        Adds (add path (is_push pair.old.manner) (leaf_of pair.old.leaf) old) old (built_tree child.new) pair.old pair.new result }
+{
+    if let TreeBuilder::Value(value) = child {
+        if add_to_value(alloc, value, pair, level)? {
+            return Ok(true);
+        }
+    }
+    if level == pair.path.len() {
+        return Ok(false);
+    }
+    add_in_no_order(child, pair, level)
 }
 
 // Adds a pair that is an assigned leaf with one key left.
@@ -117,123 +215,6 @@ fn add_unsorted<'qs>(
 {
     let key = pair.take_key(level);
     Ok(leaves.push(key, pair.leaf.take())?)
-}
-
-// Adds a pair to a map that isn't under construction yet, and that has many entries, one of which is after the pair's key, or leaves in
-// no order.
-#[cycle(adding)]
-#[inline(never)]
-fn add_out_of_order<'qs>(
-    alloc: Global,
-    node: &mut TreeBuilder<'qs>,
-    pair: &mut Pair<'qs>,
-    level: usize,
-) -> Result<(), AddError>
-    requires { level < length pair.old.path }
-    ensures { let push = is_push pair.old.manner in let path = path_of (drop level pair.old.path) in
-        AddGives (λ _. built_tree node.new) (add path push (leaf_of pair.old.leaf) (built_tree node.old)) result }
-{
-    if pair.is_leaf_below(level) {
-        *node = mem::replace(node, TreeBuilder::fresh()).unsorted();
-        if let TreeBuilder::Unsorted(leaves) = node {
-            return add_unsorted(leaves, pair, level);
-        }
-    }
-    let key = pair.take_key(level);
-    let frame = ParentMap::open(alloc, node, key, level)?;
-    add_along(alloc, node, pair, level + 1)?;
-    frame.close(alloc, node)
-}
-
-// Adds a pair to the node at a key of a map. The node is at this level of the pair's path.
-#[cycle(adding)]
-#[inline(never)]
-fn add_at_key<'qs>(
-    alloc: Global,
-    map: &mut MapBuilder<'qs>,
-    key: Key<'qs>,
-    pair: &mut Pair<'qs>,
-    level: usize,
-) -> Result<(), AddError>
-    requires { level ≤ length pair.old.path }
-    ensures { let push = is_push pair.old.manner in let path = path_of (drop level pair.old.path) in
-        AddGives (λ _. built_entries map.new) (update (parsed_segment_of_key key.entry) (add path push (leaf_of pair.old.leaf)) (built_entries map.old)) result }
-{
-    match map {
-        MapBuilder::Vector(entries) => {
-            let place = place_among(entries.as_slice(), &key);
-            if goes_between(place, entries.len()) {
-                let mut tree = into_tree(alloc, mem::replace(entries, SortedEntries::new(alloc)))?;
-                add_in_tree(alloc, &mut tree, key, pair, level)?;
-                *map = MapBuilder::Tree(tree);
-                Ok(())
-            } else {
-                add_in_vector(alloc, entries, place, key, pair, level)
-            }
-        }
-        MapBuilder::Tree(tree) => add_in_tree(alloc, tree, key, pair, level),
-    }
-}
-
-// Adds a pair to the node at a key of a vector.
-#[cycle(adding)]
-#[inline(always)]
-fn add_in_vector<'qs>(
-    alloc: Global,
-    entries: &mut SortedEntries<Key<'qs>, TreeBuilder<'qs>>,
-    place: Result<usize, usize>,
-    key: Key<'qs>,
-    pair: &mut Pair<'qs>,
-    level: usize,
-) -> Result<(), AddError>
-    requires level { level ≤ length pair.old.path }
-    requires place { IsPlaced key_cmp key entries.old place }
-    requires sorted { IsStrictlySortedBy key_cmp (keys_of entries.old) }
-    ensures { let push = is_push pair.old.manner in let path = path_of (drop level pair.old.path) in
-        AddGives (λ _. entries_seen entries.new) (update (parsed_segment_of_key key.entry) (add path push (leaf_of pair.old.leaf)) (entries_seen entries.old)) result }
-{
-    match place {
-        Ok(at) => add_along(alloc, entries.at_mut(at), pair, level),
-        Err(at) => {
-            let mut node = TreeBuilder::fresh();
-            add_along(alloc, &mut node, pair, level)?;
-            Ok(entries.insert_at(at, key, node)?)
-        }
-    }
-}
-
-// Adds a pair to the node at a key of a search tree.
-#[cycle(adding)]
-fn add_in_tree<'qs>(
-    alloc: Global,
-    tree: &mut BTreeMap<Key<'qs>, TreeBuilder<'qs>>,
-    key: Key<'qs>,
-    pair: &mut Pair<'qs>,
-    level: usize,
-) -> Result<(), AddError>
-    requires { level ≤ length pair.old.path }
-    ensures { let push = is_push pair.old.manner in let path = path_of (drop level pair.old.path) in
-        AddGives (λ _. entries_seen tree.new.entries) (update (parsed_segment_of_key key.entry) (add path push (leaf_of pair.old.leaf)) (entries_seen tree.old.entries)) result }
-{
-    let child = tree.entry(key)?.or_insert(TreeBuilder::fresh());
-    add_along(alloc, child, pair, level)
-}
-
-// Adds a pair to the node at a level of its path, by a zipper.
-#[inline(never)]
-fn add_by_zipper<'qs>(
-    alloc: Global,
-    node: &mut TreeBuilder<'qs>,
-    pair: &mut Pair<'qs>,
-    level: usize,
-) -> Result<(), AddError>
-    requires { level ≤ length pair.old.path }
-    ensures { let push = is_push pair.old.manner in let path = path_of (drop level pair.old.path) in
-        AddGives (λ _. built_tree node.new) (add path push (leaf_of pair.old.leaf) (built_tree node.old)) result }
-{
-    let frames = descend(alloc, node, pair, level)?;
-    add_here(alloc, node, pair)?;
-    rebuild(alloc, frames, node)
 }
 
 // Adds a pair's leaf at the end of its path.

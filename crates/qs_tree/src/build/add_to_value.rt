@@ -20,10 +20,14 @@ use crate::tree::value::ParsedValue;
 use std::alloc::{AllocError, Global};
 use std::mem;
 
-/// Adds a pair to the node at a level of its path. Recurses for each remaining key.
+/// How many of the last keys of a path are followed by references, without opening their maps.
+const NEAR: usize = 3;
+
+/// Adds a pair to the node at a level of its path. Recurses at most three times.
 ///
-/// Returns `false`, and changes nothing, if a key would be inserted before the end of a map with many entries. Returns an error if a
-/// node is in conflict with the pair, or if an allocation failed. The node isn't used after that.
+/// Returns `false`, and changes nothing, if there is a node at the next key and more than three keys are left, or if a key would be
+/// inserted before the end of a map with many entries. Returns an error if a node is in conflict with the pair, or if an allocation
+/// failed. The node isn't used after that.
 #[cycle(add_to_value)]
 #[inline(always)]
 pub(crate) fn add_to_value<'qs>(
@@ -86,7 +90,12 @@ fn add_in_map<'qs>(
 {
     let place = place_among(map.map.as_slice(), pair.key(level));
     match place {
-        Ok(at) => add_to_value(alloc, map.map.at_mut(at), pair, level + 1),
+        Ok(at) => {
+            if pair.path.len() - level > NEAR {
+                return Ok(false);
+            }
+            add_to_value(alloc, map.map.at_mut(at), pair, level + 1)
+        }
         Err(at) => {
             if goes_between(place, map.map.len()) {
                 return Ok(false);
@@ -99,9 +108,9 @@ fn add_in_map<'qs>(
     }
 }
 
-// Returns a node with only this pair, at a level of the pair's path. Takes the remaining keys and the leaf out of the pair.
+/// Returns a node with only this pair, at a level of the pair's path. Takes the remaining keys and the leaf out of the pair.
 #[inline(always)]
-fn chain_of<'qs>(
+pub(crate) fn chain_of<'qs>(
     alloc: Global,
     pair: &mut Pair<'qs>,
     level: usize,

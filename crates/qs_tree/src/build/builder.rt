@@ -1,12 +1,12 @@
 //! A tree under construction.
 //!
-//! Pairs are added in place to a finished tree. That doesn't suit a map with many entries that gets keys in no order, or a path of
-//! many keys. Only the maps on the way to one of these have a form of their own.
+//! Pairs are added in place to a finished tree. That doesn't suit a map with many entries that gets keys in no order. Only such a map,
+//! and the maps on the way to it, have a form of their own.
 ghost use Rattle.std.specs.Prelude.{◌≡◌, ◌+◌, ◌<◌, ◌≤◌, length, true, Some, Err, IfOk, IsOk, OnOk, MatchResult};
 ghost use Rattle.std.specs.List.Sorted.{IsStrictlySortedBy};
 ghost use Rattle.std.specs.Map.{keys_of};
 ghost use Rattle.std.specs.BTreeMap.{insert_entry};
-ghost use Rattle.qs_spec.specs.Tree.{mapping, no_entries};
+ghost use Rattle.qs_spec.specs.Tree.{mapping};
 ghost use Rattle.qs_spec.specs.internal.InPlace.{update};
 ghost use Rattle.qs_tree.specs.declared.tree.key.Key.{Key};
 ghost use Rattle.qs_tree.specs.tree.Views.{parsed_segment_of_key, tree_of, entries_of_map};
@@ -91,13 +91,6 @@ impl<'qs> TreeBuilder<'qs> {
 }
 
 impl<'qs> MapBuilder<'qs> {
-    /// Returns a map without entries. Doesn't allocate.
-    pub fn new(alloc: Global) -> Self
-        ensures { built_entries result ≡ no_entries }
-    {
-        MapBuilder::Vector(SortedEntries::new(alloc))
-    }
-
     /// Returns a finished map as an unfinished one. Allocates a vector.
     #[inline(never)]
     pub fn reopen(alloc: Global, map: ParsedMap<'qs>) -> Result<Self, AllocError>
@@ -293,7 +286,7 @@ fn take_below<'qs>(
     }
 }
 
-// Puts a node at the index of its key.
+// Puts a node at the index of its key in a vector.
 fn put_at<'qs>(
     entries: &mut SortedEntries<Key<'qs>, TreeBuilder<'qs>>,
     place: Result<usize, usize>,
@@ -303,13 +296,7 @@ fn put_at<'qs>(
     requires { IsPlaced key_cmp key entries.old place }
     ensures { OnOk result (update (parsed_segment_of_key key.entry) (λ _. Some (built_tree node.entry)) (entries_seen entries.old) ≡ Some (entries_seen entries.new)) }
 {
-    match place {
-        Ok(at) => {
-            entries.replace(at, node);
-            Ok(())
-        }
-        Err(at) => Ok(entries.insert_at(at, key, node)?),
-    }
+    Ok(entries.put_at(place, key, node)?)
 }
 
 // Puts a node at a key of a search tree.
@@ -323,8 +310,8 @@ fn put_below<'qs>(
     Ok(insert(map, key, node)?)
 }
 
-// Inserts an entry into a search tree.
-fn insert<'qs>(
+/// Inserts an entry into a search tree. Returns an error only if an allocation failed.
+pub(crate) fn insert<'qs>(
     map: &mut BTreeMap<Key<'qs>, TreeBuilder<'qs>>,
     key: Key<'qs>,
     node: TreeBuilder<'qs>,
@@ -335,9 +322,9 @@ fn insert<'qs>(
     Ok(())
 }
 
-/// Returns the entries of a vector as a search tree. Returns an error only if an allocation failed.
+// Returns the entries of a vector as a search tree. Returns an error only if an allocation failed.
 #[inline(never)]
-pub(crate) fn into_tree<'qs>(
+fn into_tree<'qs>(
     alloc: Global,
     entries: SortedEntries<Key<'qs>, TreeBuilder<'qs>>,
 ) -> Result<BTreeMap<Key<'qs>, TreeBuilder<'qs>>, AllocError>

@@ -7,15 +7,14 @@ ghost use Rattle.qs_tree.specs.Error.{IsParseSaying};
 ghost use Rattle.qs_tree.specs.internal.Parsing.{Reports};
 ghost use Rattle.qs_tree.specs.internal.scan.Cursor.{to_come};
 
-use crate::build::add::add_pair;
-use crate::build::builder::TreeBuilder;
 use crate::build::conflict::{AddError, Conflict, ConflictKind, conflict_below};
+use crate::build::descent::OpenTree;
 use crate::error::Error;
 use crate::scan::cursor::Cursor;
 use crate::scan::pair::{Leaf, Manner, Pair};
 use crate::scan::parser::SyntaxError;
 use std::alloc::{AllocError, Global};
-use std::{fmt, mem, str};
+use std::{fmt, str};
 
 /// Why an input has no tree.
 #[derive(Drop)]
@@ -38,7 +37,7 @@ impl From<AllocError> for ScanError {
 #[inline(never)]
 pub(crate) fn syntax_error<'qs>(
     alloc: Global,
-    tree: &mut TreeBuilder<'qs>,
+    tree: &mut OpenTree<'qs>,
     pair: &mut Pair<'qs>,
     error: SyntaxError,
 ) -> ScanError {
@@ -63,7 +62,7 @@ pub(crate) fn add_error(error: AddError) -> ScanError
 // used after that.
 fn conflict_before<'qs>(
     alloc: Global,
-    tree: &mut TreeBuilder<'qs>,
+    tree: &mut OpenTree<'qs>,
     pair: &mut Pair<'qs>,
     error: SyntaxError,
 ) -> Result<(), AddError> {
@@ -71,12 +70,9 @@ fn conflict_before<'qs>(
         SyntaxError::OpenAfterPush | SyntaxError::AfterPush => {
             pair.manner = Manner::Push;
             pair.leaf = Leaf::NoValue;
-            add_pair(alloc, tree, pair)
+            tree.add(alloc, pair)
         }
-        _ => match conflict_below(
-            &mem::replace(tree, TreeBuilder::fresh()).finish(alloc)?,
-            &pair.path,
-        ) {
+        _ => match conflict_below(&tree.finish(alloc)?, &pair.path) {
             Some((level, kind)) => Err(AddError::conflict(alloc, level, kind)),
             None => Ok(()),
         },

@@ -6,7 +6,7 @@ ghost use Rattle.std.specs.List.Sorted.{IsStrictlySortedBy};
 ghost use Rattle.std.specs.Map.{keys_of};
 ghost use Rattle.std.specs.BTreeMap.{insert_entry};
 ghost use Rattle.std.specs.Vec.{vec_len, vec_capacity};
-ghost use Rattle.qs_tree.specs.internal.tree.Places.{IsGap, put_value};
+ghost use Rattle.qs_tree.specs.internal.tree.Places.{IsGap, IsPlaced, put_value};
 
 use std::alloc::{AllocError, Global};
 use std::marker::Model;
@@ -172,6 +172,25 @@ impl<K: Ord + Drop, V: Drop> SortedEntries<K, V> {
         reserve_one(&mut self.items)?;
         insert_reserved(&mut self.items, at, (key, value));
         Ok(())
+    }
+
+    /// Puts a value at the index of its key. If there is an equal key, that key is kept. On an error nothing is changed.
+    pub fn put_at(
+        &mut self,
+        place: Result<usize, usize>,
+        key: K,
+        value: V,
+    ) -> Result<(), AllocError>
+        requires { IsPlaced K.cmp key self.old place }
+        ensures { OnOk result (self.new ≡ insert_entry K.cmp self.old key value) }
+    {
+        match place {
+            Ok(at) => {
+                self.replace(at, value);
+                Ok(())
+            }
+            Err(at) => self.insert_at(at, key, value),
+        }
     }
 
     /// Pushes an entry whose key is greater than all others. On an error nothing is changed.

@@ -1,5 +1,5 @@
 -- What a map under construction holds after a step.
-use Rattle.qs_tree.proofs.Common.{◌≡◌, ℕ, List, [], ◌∷◌, ◌++◌, slice_get, Option, Some, None, option_map, unwrap_or, Result, Ok, Err, Ordering, Less, Equal, Greater, refl, sym, ap, ◌∙◌, rules, Global, AllByRecursion, IsStrictlySortedBy, keys_of, lookup, set_value, ordering_reverse, is_at, insert_entry, BTreeMap, Tree, Entries, uninitialized, compare_segments, update, Key, TreeBuilder, AddError, key_cmp, AddGives, IsHit, IsGap, put_value, segment_of_key, parsed_segment_of_key, value_at_key, built_tree, built_entries, entries_seen, entries_held, as_builders, fresh, child, Takes, total-law}
+use Rattle.qs_tree.proofs.Common.{◌≡◌, ℕ, List, [], ◌∷◌, ◌++◌, slice_get, Option, Some, None, none-some, option_map, unwrap_or, Result, Ok, Err, Ordering, Less, Equal, Greater, refl, sym, ap, ◌∙◌, rules, Global, AllByRecursion, IsStrictlySortedBy, keys_of, lookup, set_value, ordering_reverse, is_at, insert_entry, BTreeMap, Tree, Entries, uninitialized, compare_segments, update, Key, TreeBuilder, AddError, key_cmp, AddGives, IsHit, IsGap, put_value, segment_of_key, parsed_segment_of_key, value_at_key, built_tree, built_entries, entries_seen, entries_held, as_builders, fresh, child, Takes, total-law}
 use Rattle.qs_spec.proofs.GoodParts.{all_to}
 use Rattle.qs_tree.specs.declared.build.builder.MapBuilder.{the_lemmas}
 use Rattle.qs_tree.specs.declared.build.builder.MapBuilder.TheVariants as is_form
@@ -39,6 +39,22 @@ module _ {X : Type 0} (seen : X → Tree) (k : Key) where
   none_set [] w h = refl
   none_set (e ∷ es) w h = rw h.0 (ap (λ l. e ∷ l) (none_set es w h.1))
 
+  none_there : (es : List (Key × X)) → AllByRecursion (λ y. key_cmp k y ≡ Less) (keys_of es) → lookup (is_at (key_cmp k)) es ≡ None
+  none_there [] h = refl
+  none_there (e ∷ es) h = rw h.0 (none_there es h.1)
+
+  -- an entry is inserted at a key that is there
+  pub found_set : (es : List (Key × X)) (old new : X) → lookup (is_at (key_cmp k)) es ≡ Some old → IsStrictlySortedBy key_cmp (keys_of es) → insert_entry key_cmp es k new ≡ set_value (is_at (key_cmp k)) es new
+  unfolding IsStrictlySortedBy
+  found_set [] old new is sorted = absurd (none-some old is)
+  found_set (e ∷ es) old new is sorted = by (found_set es old new) (key_cmp k e.0) refl
+    where
+      by : (lookup (is_at (key_cmp k)) es ≡ Some old → IsStrictlySortedBy key_cmp (keys_of es) → insert_entry key_cmp es k new ≡ set_value (is_at (key_cmp k)) es new) → (o : Ordering) → key_cmp k e.0 ≡ o
+          → insert_entry key_cmp (e ∷ es) k new ≡ set_value (is_at (key_cmp k)) (e ∷ es) new
+      by more Less d = absurd (none-some old (sym (none_there es (all_to _ _ (λ y. total-law.trans k e.0 y d) (keys_of es) sorted.0)) ∙ (rw d at is)))
+      by more Equal d = rw d
+      by more Greater d = rw d (ap (λ l. e ∷ l) (more (rw d at is) sorted.1))
+
   -- the value at the key doesn't matter where another is put there
   pub put_again : (es : List (Key × X)) (w : X) (u : Tree) → IsStrictlySortedBy key_cmp (keys_of es)
       → update (parsed_segment_of_key k) (λ _. Some u) (seen_view seen (set_value (is_at (key_cmp k)) es w)) ≡ update (parsed_segment_of_key k) (λ _. Some u) (seen_view seen es)
@@ -53,21 +69,21 @@ module _ {X : Type 0} (seen : X → Tree) (k : Key) where
       by more Greater d = let after : compare_segments (parsed_segment_of_key k).segment (segment_of_key e.0) ≡ Greater = d in rw (d, after, more)
 
 -- the node at a key is taken out of a vector
-module _ (k : Key) (es : Unfinished) (i : ℕ) where
-  pub taken_hit : IsHit key_cmp k es i → IsStrictlySortedBy key_cmp (keys_of es) → (x w : TreeBuilder) → option_map (λ e. e.1) (slice_get es i) ≡ Some x
-      → Takes k (entries_seen es) (built_tree x) (entries_seen (put_value es i w))
+module _ {X : Type 0} (seen : X → Tree) (k : Key) (es : List (Key × X)) (i : ℕ) where
+  pub taken_hit : IsHit key_cmp k es i → IsStrictlySortedBy key_cmp (keys_of es) → (x w : X) → option_map (λ e. e.1) (slice_get es i) ≡ Some x
+      → Takes k (seen_view seen es) (seen x) (seen_view seen (put_value es i w))
   taken_hit hit sorted x w is =
-      let found : Some (built_tree x) ≡ value_at_key (segment_of_key k) (entries_seen es) = ap (option_map built_tree) (sym is ∙ sym (hit_lookup key_cmp k es i hit)) ∙ seen-lookup built_tree k es in
+      let found : Some (seen x) ≡ value_at_key (segment_of_key k) (seen_view seen es) = ap (option_map seen) (sym is ∙ sym (hit_lookup key_cmp k es i hit)) ∙ seen-lookup seen k es in
       record {
         node = rw (← found);
-        rest = λ u. rw (← hit_set key_cmp k es i w hit) (put_again built_tree k es w u sorted);
-        ordered = ordered_seen built_tree es sorted;
+        rest = λ u. rw (← hit_set key_cmp k es i w hit) (put_again seen k es w u sorted);
+        ordered = ordered_seen seen es sorted;
       }
 
-  pub taken_gap : IsGap key_cmp k es i → IsStrictlySortedBy key_cmp (keys_of es) → Takes k (entries_seen es) (built_tree fresh) (entries_seen es)
-  taken_gap gap sorted =
-      let missing : None ≡ value_at_key (segment_of_key k) (entries_seen es) = ap (option_map built_tree) (sym (gap_lookup key_cmp k es i gap)) ∙ seen-lookup built_tree k es in
-      record { node = rw (built_tree-fresh, ← missing); rest = λ u. refl; ordered = ordered_seen built_tree es sorted }
+  pub taken_gap : (empty : X) → seen empty ≡ uninitialized → IsGap key_cmp k es i → IsStrictlySortedBy key_cmp (keys_of es) → Takes k (seen_view seen es) (seen empty) (seen_view seen es)
+  taken_gap empty none gap sorted =
+      let missing : None ≡ value_at_key (segment_of_key k) (seen_view seen es) = ap (option_map seen) (sym (gap_lookup key_cmp k es i gap)) ∙ seen-lookup seen k es in
+      record { node = rw (none, ← missing); rest = λ u. refl; ordered = ordered_seen seen es sorted }
 
 -- a pair is added to the node at a key, which was lent
 module _ {X : Type 0} (seen : X → Tree) (empty : X) (none : seen empty ≡ uninitialized) (k : Key) (es : List (Key × X)) (sorted : IsStrictlySortedBy key_cmp (keys_of es)) (old : X) (lent : old ≡ unwrap_or (lookup (is_at (key_cmp k)) es) empty) where

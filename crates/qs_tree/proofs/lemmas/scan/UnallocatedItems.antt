@@ -1,6 +1,7 @@
 -- Items of inputs for which nothing is allocated.
-use Rattle.qs_tree.proofs.Common.{◌≡◌, ℕ, zero, suc, Bool, true, false, cond, ◌&&◌, ◌||◌, ◌==◌, List, [], ◌∷◌, ◌++◌, length, refl, sym, ap, ap₂, ◌∙◌, subst, Option, Some, None, Result, eqb-true, ◌<◌, arith, inl, inr, list_all-append, TokenKind, Token, tokens, byte_token, byte_kind, raw_of, Amp, Equals, Open, Close, is_amp, is_equals, is_open, ends_root, cut, cut_at, and_both, TreeBuilder, HasNoMap, fresh, is_ampersand, kind_of_token, token_of, raw_from_token, from_token, is_nothing, is_ampersands, is_unescaped, is_unescaped_value, AllocatesNothing, IsEqualsStop, ParsesUnallocated, StaysUnallocated, IsNoMap, built_tree}
+use Rattle.qs_tree.proofs.Common.{◌≡◌, ℕ, zero, suc, Bool, true, false, cond, ◌&&◌, ◌||◌, ◌==◌, List, [], ◌∷◌, ◌++◌, length, refl, sym, ap, ap₂, ◌∙◌, subst, Option, Some, None, Result, eqb-true, ◌<◌, arith, inl, inr, list_all-append, TokenKind, Token, tokens, byte_token, byte_kind, raw_of, Amp, Equals, Open, Close, is_amp, is_equals, is_open, ends_root, cut, cut_at, and_both, IsFresh, IsWithoutMaps, is_ampersand, kind_of_token, token_of, raw_from_token, from_token, is_nothing, is_ampersands, is_unescaped, is_unescaped_value, AllocatesNothing, IsEqualsStop, ParsesUnallocated, StaysUnallocated, IsNoMap, built_tree}
 use Rattle.qs_tree.proofs.lemmas.Views.{built_tree-fresh}
+use Rattle.qs_tree.specs.declared.build.descent.OpenTree.{OpenTree}
 use Rattle.qs_tree.specs.declared.scan.cursor.Token as code
 use Rattle.qs_tree.specs.declared.scan.cursor.Cursor as cursor
 use Rattle.qs_tree.specs.declared.scan.pair.Pair as code_pair
@@ -96,27 +97,27 @@ module _ (depth : ℕ) (is_form : Bool) where
             (h.empty, subst IsEqualsStop (sym h.is) (ap is_equals (h.kind ∙ k)), ap is_unescaped h.left ∙ parts.1)
 
 -- one item more of what is left of such an input
-pub unallocated_start : (rest : List ℕ) (tree : TreeBuilder) → AllocatesNothing rest → tree ≡ fresh → StaysUnallocated rest tree
+pub unallocated_start : (rest : List ℕ) (tree : OpenTree) → AllocatesNothing rest → IsFresh tree → StaysUnallocated rest tree
 unallocated_start rest tree unallocated fresh = inr (unallocated, fresh)
 
-pub unallocated_end : (rest : List ℕ) (tree : TreeBuilder) → rest ≡ [] → HasNoMap tree → StaysUnallocated rest tree
+pub unallocated_end : (rest : List ℕ) (tree : OpenTree) → rest ≡ [] → IsWithoutMaps tree → StaysUnallocated rest tree
 unallocated_end rest tree none node_of_leaves = inl (none, node_of_leaves)
 
-unallocated_parsed : (rest : List ℕ) (tree : TreeBuilder) → StaysUnallocated rest tree → AllocatesNothing rest
+unallocated_parsed : (rest : List ℕ) (tree : OpenTree) → StaysUnallocated rest tree → AllocatesNothing rest
 unallocated_parsed rest tree (inl h) = subst AllocatesNothing (sym h.0) refl
 unallocated_parsed rest tree (inr h) = h.0
 
-pub unallocated_goes : (rest : List ℕ) (tree : TreeBuilder) (o : Result item.Item parse_error.ParseError) (new : cursor.Cursor) (p : code_pair.Pair) → StaysUnallocated rest tree → (AllocatesNothing rest → ParsesUnallocated o new p) → ParsesUnallocated o new p
+pub unallocated_goes : (rest : List ℕ) (tree : OpenTree) (o : Result item.Item parse_error.ParseError) (new : cursor.Cursor) (p : code_pair.Pair) → StaysUnallocated rest tree → (AllocatesNothing rest → ParsesUnallocated o new p) → ParsesUnallocated o new p
 unallocated_goes rest tree o new p h f = f (unallocated_parsed rest tree h)
 
-pub unallocated_ampersand : (old new : List ℕ) (tree : TreeBuilder) → length new < length old → StaysUnallocated old tree → is_ampersands new ≡ true → StaysUnallocated new tree
+pub unallocated_ampersand : (old new : List ℕ) (tree : OpenTree) → length new < length old → StaysUnallocated old tree → is_ampersands new ≡ true → StaysUnallocated new tree
 unallocated_ampersand old new tree shorter (inl h) amp = absurd (omega (arith, ap length h.0))
 unallocated_ampersand old new tree shorter (inr h) amp = inr (ap (λ x. x || is_unescaped_value new) amp, h.1)
 
-pub unallocated_fresh : (old new : List ℕ) (tree : TreeBuilder) → length new < length old → StaysUnallocated old tree → tree ≡ fresh
+pub unallocated_fresh : (old new : List ℕ) (tree : OpenTree) → length new < length old → StaysUnallocated old tree → IsFresh tree
 unallocated_fresh old new tree shorter (inl h) = absurd (omega (arith, ap length h.0))
 unallocated_fresh old new tree shorter (inr h) = h.1
 
-pub unallocated_leaves : (rest : List ℕ) (tree : TreeBuilder) → StaysUnallocated rest tree → HasNoMap tree
+pub unallocated_leaves : (rest : List ℕ) (tree : OpenTree) → StaysUnallocated rest tree → IsWithoutMaps tree
 unallocated_leaves rest tree (inl h) = h.1
-unallocated_leaves rest tree (inr h) = subst IsNoMap (sym (ap built_tree h.1 ∙ built_tree-fresh)) tt
+unallocated_leaves rest tree (inr h) = (h.1.0, subst IsNoMap (sym (ap built_tree h.1.1 ∙ built_tree-fresh)) tt)

@@ -1,4 +1,4 @@
-use Rattle.qs_tree.proofs.Common.{Ok, ◌∙◌, sym, subst, arith, refl, ap, length, built_tree, pair_of, left, to_come, IsEnd, IsMore, ParsesItem, ParsesUnallocated}
+use Rattle.qs_tree.proofs.Common.{Ok, ◌∙◌, sym, subst, arith, refl, ap, length, whole_tree, pair_of, left, to_come, IsEnd, IsMore, ParsesItem, ParsesUnallocated}
 use Rattle.qs_tree.proofs.lemmas.Growing.{grown_same, grown_pair}
 use Rattle.qs_tree.proofs.lemmas.scan.UnallocatedItems.{unallocated_start, unallocated_end, unallocated_goes, unallocated_ampersand, unallocated_fresh, unallocated_leaves}
 use Rattle.qs_tree.proofs.parsing.scan.Goals as goal
@@ -21,7 +21,7 @@ loop-item-preserved-in-Ampersand c =
     let read = subst (λ i. ParsesItem depth (left old) (Ok i) new pair) c.in-Ampersand.is c.in-Ok.ensures.item in
     let shorter = c.in-Ok.ensures.shorter (subst (λ i. IsMore (Ok i)) (sym c.in-Ampersand.is) tt) in
     record {
-      grows = sym (grown_same depth (left old) (built_tree c.loop-item.tree) (left new) read) ∙ before.grows;
+      grows = sym (grown_same depth (left old) (whole_tree c.loop-item.tree) (left new) read) ∙ before.grows;
       fewer = omega (arith, shorter, before.fewer);
       steps = c.in-Ok.ensures.moves.steps ∙ before.steps;
       end = c.in-Ok.ensures.moves.end;
@@ -39,7 +39,7 @@ loop-item-preserved c =
     let read = subst (λ i. ParsesItem depth (left old) (Ok i) new pair) c.in-Pair.is c.in-Ok.ensures.item in
     let shorter = c.in-Ok.ensures.shorter (subst (λ i. IsMore (Ok i)) (sym c.in-Pair.is) tt) in
     record {
-      grows = sym (grown_pair depth (left old) (built_tree c.loop-item.tree) (left new) (pair_of pair) (built_tree c.add.new.tree) read c.in_ok-add-in-Pair.ensures.tree) ∙ before.grows;
+      grows = sym (grown_pair depth (left old) (whole_tree c.loop-item.tree) (left new) (pair_of pair) (whole_tree c.add.new.tree) read c.in_ok-add-in-Pair.ensures.tree) ∙ before.grows;
       fewer = omega (arith, shorter, before.fewer);
       steps = c.in-Ok.ensures.moves.steps ∙ before.steps;
       end = c.in-Ok.ensures.moves.end;
@@ -54,5 +54,5 @@ loop-item-init c = record {
   fewer = omega arith;
   steps = refl;
   end = c.requires.end;
-  unallocated = λ unallocated fresh. unallocated_start _ _ unallocated fresh;
+  unallocated = λ unallocated fresh. unallocated_start c.args.cursor.now.rest.now c.args.tree.now unallocated fresh;
 }

@@ -6,8 +6,8 @@ use Rattle.qs_tree.specs.declared.scan.cursor.Cursor as cursor
 use Rattle.qs_tree.specs.declared.scan.pair.Pair as pair
 use Rattle.qs_tree.specs.declared.scan.parser.Item as item
 use Rattle.qs_tree.specs.declared.scan.parser.ParseError as parse_error
-use Rattle.qs_tree.specs.declared.build.builder.TreeBuilder.{TreeBuilder}
-use Rattle.qs_tree.specs.internal.build.Builder.{HasNoMap, fresh}
+use Rattle.qs_tree.specs.declared.build.descent.OpenTree.{OpenTree}
+use Rattle.qs_tree.specs.internal.build.Descent.{IsFresh, IsWithoutMaps}
 use Rattle.qs_tree.specs.Parsing.{is_ampersands, AllocatesNothing}
 use Rattle.qs_tree.specs.internal.scan.Cursor.{kind_of_token}
 use Rattle.qs_tree.specs.internal.scan.Pairs.{IsRootValue}
@@ -30,5 +30,5 @@ ParsesUnallocated (Ok item.TheVariants.Pair) new p = IsRootValue p × (new.rest.
 ParsesUnallocated (Err f) new p = ⊥
 
 -- nothing remains, and the tree isn't a map; or the tree is empty, and such an input remains
-abbrev pub StaysUnallocated : List ℕ → TreeBuilder → Type 0
-StaysUnallocated rest tree = ((rest ≡ []) × HasNoMap tree) ⊎ (AllocatesNothing rest × (tree ≡ fresh))
+abbrev pub StaysUnallocated : List ℕ → OpenTree → Type 0
+StaysUnallocated rest tree = ((rest ≡ []) × IsWithoutMaps tree) ⊎ (AllocatesNothing rest × IsFresh tree)

@@ -53,6 +53,17 @@ impl<'qs> OpenTree<'qs> {
         ensures added { let p = pair_of pair.old in AddGives (λ _. whole_tree self.new) (in_place.add p.path p.push p.leaf (whole_tree self.old)) result }
         ensures fresh { IsRootValue pair.old → IsFresh self.old → IsOkAnd result (λ _. IsWithoutMaps self.new) }
     {
+        if self.frames.is_empty() && add_near(alloc, &mut self.node, pair, 0)? {
+            return Ok(());
+        }
+        self.add_along(alloc, pair)
+    }
+
+    // Adds a pair as `add` does, along the open maps.
+    #[inline(never)]
+    fn add_along(&mut self, alloc: Global, pair: &mut Pair<'qs>) -> Result<(), AddError>
+        ensures { let p = pair_of pair.old in AddGives (λ _. whole_tree self.new) (in_place.add p.path p.push p.leaf (whole_tree self.old)) result }
+    {
         let mut level = self.shared(&pair.path);
         self.close_to(alloc, level)?;
         loop {
@@ -66,14 +77,17 @@ impl<'qs> OpenTree<'qs> {
         }
     }
 
-    /// Finishes the tree, and takes it. Returns an error only if an allocation failed.
+    /// Finishes the tree, and returns it. Returns an error only if an allocation failed.
     #[inline(always)]
-    pub fn finish(&mut self, alloc: Global) -> Result<ParsedValue<'qs>, AllocError>
-        ensures tree { IfOk result (λ value. tree_of value ≡ whole_tree self.old) }
-        ensures no_map { IsWithoutMaps self.old → IsOk result }
+    pub fn finish(self, alloc: Global) -> Result<ParsedValue<'qs>, AllocError>
+        ensures tree { IfOk result (λ value. tree_of value ≡ whole_tree self.entry) }
+        ensures no_map { IsWithoutMaps self.entry → IsOk result }
     {
-        self.close_to(alloc, 0)?;
-        mem::replace(&mut self.node, TreeBuilder::fresh()).finish(alloc)
+        let mut tree = self;
+        tree.close_to(alloc, 0)?;
+        let OpenTree { frames, node } = tree;
+        frames.destroy_empty();
+        node.finish(alloc)
     }
 
     // Returns how many keys a path shares with the open maps.

@@ -14,7 +14,7 @@ use crate::scan::cursor::Cursor;
 use crate::scan::pair::{Leaf, Manner, Pair};
 use crate::scan::parser::SyntaxError;
 use std::alloc::{AllocError, Global};
-use std::{fmt, str};
+use std::{fmt, mem, str};
 
 /// Why an input has no tree.
 #[derive(Drop)]
@@ -72,7 +72,10 @@ fn conflict_before<'qs>(
             pair.leaf = Leaf::NoValue;
             tree.add(alloc, pair)
         }
-        _ => match conflict_below(&tree.finish(alloc)?, &pair.path) {
+        _ => match conflict_below(
+            &mem::replace(tree, OpenTree::new(alloc)).finish(alloc)?,
+            &pair.path,
+        ) {
             Some((level, kind)) => Err(AddError::conflict(alloc, level, kind)),
             None => Ok(()),
         },

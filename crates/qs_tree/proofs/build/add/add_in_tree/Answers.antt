@@ -1,4 +1,4 @@
-use Rattle.qs_tree.proofs.Common.{◌≡◌, ◌+◌, ◌∷◌, Some, drop, sym, ap, ◌∙◌, Value, built_tree, fresh, is_push, leaf_of, path_of}
+use Rattle.qs_tree.proofs.Common.{◌≡◌, ◌+◌, Some, drop, sym, ap, ◌∙◌, Value, built_tree, fresh, is_push, leaf_of, path_of}
 use Rattle.qs_tree.proofs.lemmas.Views.{built_tree-Value, built_tree-fresh}
 use Rattle.qs_tree.proofs.lemmas.build.Chains.{added_at, added_new, same_head}
 use Rattle.qs_tree.proofs.build.add.add_in_tree.Goals as goal

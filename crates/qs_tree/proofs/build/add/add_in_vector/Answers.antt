@@ -1,4 +1,4 @@
-use Rattle.qs_tree.proofs.Common.{◌≡◌, ◌+◌, ◌∷◌, Some, drop, sym, ap, ◌∙◌, key_cmp, Value, built_tree, fresh, is_push, leaf_of, path_of}
+use Rattle.qs_tree.proofs.Common.{◌≡◌, ◌+◌, Some, drop, sym, ap, ◌∙◌, key_cmp, Value, built_tree, fresh, is_push, leaf_of, path_of}
 use Rattle.qs_tree.proofs.lemmas.Views.{built_tree-Value, built_tree-fresh}
 use Rattle.qs_tree.proofs.lemmas.tree.Places.{gap_lookup}
 use Rattle.qs_tree.proofs.lemmas.build.Chains.{added_below, added_new, same_head}

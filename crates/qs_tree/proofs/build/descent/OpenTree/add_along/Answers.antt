@@ -1,7 +1,7 @@
-use Rattle.qs_tree.proofs.Common.{◌≡◌, ◌≤◌, ◌<◌, ◌+◌, ◌∷◌, length, drop, take, sym, ap, subst, ◌∙◌, arith, length-take-le, option_and_then, add, add_below, built_tree, is_push, leaf_of, path_of, parsed_segment_of_key, put_all_back, whole_tree, IsFresh}
+use Rattle.qs_tree.proofs.Common.{◌≡◌, ◌≤◌, ◌<◌, ◌+◌, ◌∷◌, length, drop, take, sym, ap, ◌∙◌, arith, length-take-le, option_and_then, add, add_below, built_tree, is_push, leaf_of, path_of, parsed_segment_of_key, put_all_back, whole_tree}
 use Rattle.qs_tree.specs.declared.scan.pair.Pair as code
 use Rattle.qs_tree.proofs.lemmas.build.Descending.{resumes, put_all, goes_on, added}
-use Rattle.qs_tree.proofs.build.descent.OpenTree.add.Goals as goal
+use Rattle.qs_tree.proofs.build.descent.OpenTree.add_along.Goals as goal
 
 pub loop-pair-init : goal.loop-pair-init
 loop-pair-init c =
@@ -15,11 +15,10 @@ loop-pair-init c =
       way = rw size at (resumes (is_push pair.manner) (leaf_of pair.leaf) new.frames.items (built_tree new.node) (whole_tree old) pair.path
           (c.in_ok-close_to.ensures.same ∙ put_all old.frames.items (built_tree old.node)) (rw frames shared.ensures.same));
       count = shared.ensures.within;
-      fresh = λ root fresh. (subst IsFresh (sym (c.in_ok-close_to.ensures.none fresh.0)) fresh, root, omega (arith, shared.ensures.within, ap length root.0));
     }
 
-pub returns-then-branch-clause-added : goal.returns-then-branch-clause-added
-returns-then-branch-clause-added c =
+pub returns-then-branch : goal.returns-then-branch
+returns-then-branch c =
     let done = rw c.if-branch.true at c.in_ok-add_near.ensures.added in
     added _ c.loop-pair.self.frames.items _ c.loop-pair.invariant.way (built_tree c.add_near.new.node) done
 
@@ -40,5 +39,4 @@ loop-pair-preserved c =
       way = rw (c.in_ok-push.ensures.items, c.take_key-key.ensures.manner ∙ ap (λ (p : code.Pair). p.manner) kept.pair, c.take_key-key.ensures.leaf ∙ ap (λ (p : code.Pair). p.leaf) kept.pair)
           (goes_on expected frames (parsed_segment_of_key key) rest (built_tree c.add_near.new.node) way c.in_ok-frame.frame (built_tree c.«open».new.node) c.in_ok-frame.ensures);
       count = omega (arith, below, c.take_key-key.ensures.len);
-      fresh = λ root fresh. let before = c.loop-pair.invariant.fresh root fresh in absurd (omega (arith, below, ap (λ (p : code.Pair). length p.path) kept.pair, ap length before.1.0));
     }

@@ -3,8 +3,8 @@ use Rattle.std.proofs.Common.{◌≡◌, ◌++◌, false, List, [], ◌∷◌, m
 use Rattle.qs_spec.specs.Escape.{encoded}
 use Rattle.qs_spec.specs.Segment.{segment_text}
 use Rattle.qs_spec.specs.Written.{brackets_text, path_text}
-use Rattle.qs_explain.specs.declared.segment.Segment.{Segment}
-use Rattle.qs_explain.specs.Explains.{segment_of}
+use Rattle.qs_data.specs.declared.failure.segment.Segment.{Segment}
+use Rattle.qs_data.specs.failure.Mismatch.{segment_of}
 
 pub path_none : (p : List Segment) → p ≡ [] → [] ≡ path_text false (map segment_text (map segment_of p))
 unfolding path_text

@@ -1,5 +1,5 @@
 -- Steps along a path.
-use Rattle.std.proofs.Common.{◌≡◌, ◌⊎◌, inl, inr, ◌<◌, ℕ, zero, suc, Bool, true, false, List, [], drop, slice_get, Option, Some, None, refl, sym, ap, ◌∙◌, arith, rules}
+use Rattle.std.proofs.Common.{◌≡◌, ◌⊎◌, inl, inr, ◌<◌, ℕ, zero, suc, Bool, true, false, List, [], drop, map, slice_get, Option, Some, None, refl, sym, ap, ◌∙◌, arith, rules}
 use Rattle.std.proofs.Math.Nat.{le-max_left}
 use Rattle.std.proofs.lemmas.Option.{same_Some}
 use Rattle.std.specs.Borrow.{Bor}
@@ -17,9 +17,11 @@ use Rattle.qs_spec.specs.Tree.Entries.{no_entries, entry}
 use Rattle.qs_tree.specs.tree.Views.{tree_of, items_of, entry_list}
 use Rattle.qs_tree.specs.declared.tree.value.ParsedValue as value
 use Rattle.qs_tree.specs.declared.tree.value.ParsedValue.{ParsedValue, String, the_lemmas}
-use Rattle.qs_explain.proofs.ItemsThere.{value_there}
-use Rattle.qs_explain.specs.Children.{first_there}
-use Rattle.qs_c.specs.Paths.{child, index_of, item_at}
+use Rattle.qs_spec.specs.Node.{sequence_items}
+use Rattle.qs_tree.specs.tree.Views.{items_from}
+use Rattle.qs_data.proofs.lemmas.read.Fields.{item_at as item_here, no_item_at}
+use Rattle.qs_data.proofs.lemmas.read.Items.{each_at}
+use Rattle.qs_c.specs.Paths.{child, first_there, index_of, item_at}
 
 -- what stands below the first entry nests less
 pub falls : (es : Entries) (x : ParsedSegment × Tree) → slice_get (entry_list es) 0 ≡ Some x → nesting x.1 < nesting (mapping es)
@@ -28,6 +30,11 @@ falls (entry k m t es) x h =
     let same : nesting t ≡ nesting x.1 = ap (λ (y : ParsedSegment × Tree). nesting y.1) (same_Some (record { segment = k; escaped = m }, t) x h) in
     let least = le-max_left (nesting t) (entries_nesting es) in
     omega (arith, same, least)
+
+-- the item at an index of a sequence
+value_there : (ts : List ParsedValue) (i : ℕ) (r : Option (Bor ParsedValue)) → IsItemAt ts i r → option_map (λ v. tree_of v.now) r ≡ first_there (drop i (sequence_items (items_from (map tree_of ts))))
+value_there ts i None h = sym (ap first_there (each_at i ts ∙ ap sequence_items (no_item_at ts i h.3)))
+value_there ts i (Some v) h = sym (ap first_there (each_at i ts ∙ ap sequence_items (item_here ts i v.now h.3.0 h.1)))
 
 -- no item is beyond the end
 none_after : (i : ℕ) → first_there (drop i []) ≡ None

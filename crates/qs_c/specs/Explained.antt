@@ -5,7 +5,8 @@ use Rattle.qs_spec.specs.Config.{Config}
 use Rattle.qs_spec.specs.Segment.{segment_text}
 use Rattle.qs_spec.specs.Shape.{Shape}
 use Rattle.qs_spec.specs.Written.{path_text}
-use Rattle.qs_explain.specs.Explains.{Explains, ExplainsUnread, path_of}
+use Rattle.qs_data.specs.failure.Mismatch.{path_of}
+use Rattle.qs_explain.specs.Explains.{Explains, ExplainsUnread}
 use Rattle.qs_explain.specs.declared.explanation.Explanation.{Explanation}
 use Rattle.qs_explain.specs.declared.explanation.Explanation.TheVariants.{Mismatch}
 use Rattle.qs_c.specs.declared.failure.FailureKind.{FailureKind}

@@ -11,7 +11,6 @@ use Rattle.qs_spec.specs.Shape.{Shape}
 use Rattle.qs_spec.specs.Tree.{Tree, IsTree, HasNoTree}
 use Rattle.qs_spec.specs.Tree.Tree.{leaf, mapping}
 use Rattle.qs_spec.specs.Tree.Entries.{no_entries, entry}
-use Rattle.qs_explain.specs.Children.{first_there}
 use Rattle.qs_c.specs.declared.failure.FailureKind.{FailureKind}
 use Rattle.qs_c.specs.declared.failure.FailureKind.TheVariants as kind
 use Rattle.qs_c.specs.declared.settings.Settings.{Settings}
@@ -40,6 +39,11 @@ pub record IsPath (config : Config) (text : List ℕ) (path : List Segment) : Ty
 -- the text isn't a key: it can't be parsed, or has a value or several pairs
 abbrev pub IsNoPath : Config → List ℕ → Type 0
 IsNoPath config text = HasNoTree config.is_form config.max_depth text ⊎ ((tree : Tree) × IsTree config.is_form config.max_depth text tree × IsFalse (is_key tree))
+
+-- the first of some items, if it isn't missing
+abbrev pub first_there : List (Option Tree) → Option Tree
+first_there [] = None
+first_there (x ∷ xs) = x
 
 -- the item at an index of a node that is a list
 abbrev pub item_at : ℕ → Tree → Option Tree

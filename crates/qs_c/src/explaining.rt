@@ -5,7 +5,7 @@ ghost use Rattle.std.specs.Str.{IsUtf8};
 ghost use Rattle.qs_spec.specs.Escape.{encoded};
 ghost use Rattle.qs_spec.specs.Segment.{segment_text};
 ghost use Rattle.qs_spec.specs.Written.{brackets_text, path_text};
-ghost use Rattle.qs_explain.specs.Explains.{path_of, segment_of};
+ghost use Rattle.qs_data.specs.failure.Mismatch.{path_of, segment_of};
 ghost use Rattle.qs_c.specs.Answer.{IsHandedOut, IsLaidOut, LeavesNothing};
 ghost use Rattle.qs_c.specs.Explained.{IsExplained, IsLine, StartsWith, WhyNotExplained};
 ghost use Rattle.qs_c.specs.Limits.{IsTooLarge};
@@ -40,8 +40,8 @@ use std::alloc::{AllocError, Global};
 /// - 7: the text isn't a shape. The position is how many of its bytes were parsed.
 /// - 10: the querystring is larger than the settings allow.
 ///
-/// It allocates for the shape, the tree and the explanation, and frees them before it returns. If the path has n levels, it takes at most
-/// as long as reading the querystring n + 1 times.
+/// It allocates for the shape, the tree and the explanation, and frees them before it returns. It takes about as long as reading the
+/// querystring.
 ///
 /// ```
 /// uint32_t status = qs_explain(&qs_default, QS_TEXT("{age: u8}"), QS_TEXT("age=300"), QS_ROOM(out), &answer);

@@ -1,61 +1,24 @@
 -- What an explanation says of an input.
-use Rattle.std.specs.Prelude.{◌≡◌, ⊤, ℕ, Bool, true, false, List, map, Option, Some, None, Result, Ok, Err}
+use Rattle.std.specs.Prelude.{◌≡◌, ⊤, ℕ, Bool, true, false, List, Option, Some, None, Result, Ok, Err}
 use Rattle.qs_spec.specs.Config.{Config, are_rejected}
 use Rattle.qs_spec.specs.Data.{Data}
 use Rattle.qs_spec.specs.Relation.{ReadsBy, ReadsNothing}
-use Rattle.qs_spec.specs.Segment as segments
 use Rattle.qs_spec.specs.Shape.{Shape}
 use Rattle.qs_spec.specs.Input.{HasPairs}
 use Rattle.qs_spec.specs.Tree.{Tree, IsTree, HasNoTree}
 use Rattle.qs_spec.specs.Tree.Tree.{uninitialized}
+use Rattle.qs_data.specs.failure.Mismatch.{IsMismatch}
 use Rattle.qs_data.specs.read.Reads.{reads}
 use Rattle.qs_tree.specs.Error.{IsParse}
 use Rattle.qs_tree.specs.Parsing.{Parses}
 use Rattle.qs_tree.specs.declared.error.Error.{Error}
 use Rattle.qs_tree.specs.declared.tree.value.ParsedValue.{ParsedValue}
-use Rattle.qs_explain.specs.declared.segment.Segment.{Segment}
-use Rattle.qs_explain.specs.declared.segment.Segment.TheVariants.{Index, Key}
 use Rattle.qs_explain.specs.declared.explanation.Explanation.{Explanation}
 use Rattle.qs_explain.specs.declared.explanation.Explanation.TheVariants as e
-use Rattle.qs_explain.specs.declared.explanation.Mismatch.{Mismatch}
-use Rattle.qs_explain.specs.declared.explanation.Problem.{Problem}
-use Rattle.qs_explain.specs.declared.explanation.Problem.TheVariants.{Unfit, UnexpectedKey}
-use Rattle.qs_explain.specs.declared.expected.Expected.{Expected}
-use Rattle.qs_explain.specs.Expected.{Expects, Stands}
-use Rattle.qs_explain.specs.Unexpected.{unexpected_key}
-use Rattle.qs_explain.specs.Parts.{ReadsSome, Part, IsPathTo}
 
--- a segment of a path, as a segment of a tree
-abbrev pub segment_of : Segment → segments.Segment
-segment_of (Index i) = segments.Segment.Int i
-segment_of (Key bytes) = segments.Segment.Str bytes.items
-
-abbrev pub path_of : Mismatch → List segments.Segment
-path_of m = map segment_of m.path.items
-
--- what is wrong with a part: what is expected, and the unexpected key, or else what is found
-abbrev pub Says : Option segments.Segment → (Expected → Type 0) → Tree → Problem → Type 0
-Says None IsExpected n (Unfit e found) = IsExpected e × Stands found n
-Says None IsExpected n (UnexpectedKey k e) = ⊥
-Says (Some key) IsExpected n (Unfit e found) = ⊥
-Says (Some key) IsExpected n (UnexpectedKey k e) = (segment_of k ≡ key) × IsExpected e
-
--- the problem is what is wrong with the node for the shape
-abbrev pub IsProblem : Problem → Shape → Tree → Type 0
-IsProblem p s n = Says (unexpected_key s n) (Expects s) n p
-
--- every part of the node is read by its shape
-abbrev pub PartsAreRead : Bool → Shape → Tree → Type 0
-PartsAreRead reject_duplicates s n = (front : List segments.Segment) (part : Shape) (node : Tree) → Part front s n part node → ReadsSome reject_duplicates part node
-
--- The path leads to a part that isn't read, although each of its own parts is. The problem is what is wrong with that part.
-pub record IsMismatch (reject_duplicates : Bool) (s : Shape) (n : Tree) (m : Mismatch) : Type 0 where
-  pub part : Shape
-  pub node : Tree
-  pub leads : IsPathTo (path_of m) s n part node
-  pub unread : reads reject_duplicates part node ≡ None
-  pub innermost : PartsAreRead reject_duplicates part node
-  pub problem : IsProblem m.problem part node
+-- The shape reads something from the node.
+abbrev pub ReadsSome : Bool → Shape → Tree → Type 0
+ReadsSome reject_duplicates s n = (d : Data) × (reads reject_duplicates s n ≡ Some d)
 
 -- the tree without pairs
 abbrev pub is_uninitialized : Tree → Bool

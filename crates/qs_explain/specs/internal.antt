@@ -1,3 +1,2 @@
 -- Steps of proofs: no public clause uses a word of this folder.
-pub mod Finding
 pub mod Parsed

@@ -9,15 +9,14 @@ ghost use Rattle.qs_explain.specs.Explains.{Explains, ExplainsUnread};
 ghost use Rattle.qs_explain.specs.internal.Parsed.{ExplainsParsed, ExplainsTree};
 
 use crate::explanation::Explanation;
-use crate::walk::find_mismatch;
-use qs_data::{Config, Error, Shape};
+use qs_data::{Config, Error, Failure, Shape, read_with_path};
 use qs_tree::{ParsedValue, parse};
 use std::alloc::{AllocError, Global};
 
 /// Explains why a shape doesn't read an input under a configuration. Returns `None` if and only if the shape reads the input.
 ///
-/// For an input without a tree, the explanation is the error that parsing returned. The path of a [`Mismatch`](crate::Mismatch) leads
-/// to the innermost part that isn't read. The input is parsed once, and read at most once for each level of the path and once more.
+/// For an input without a tree, the explanation is the error that parsing returned. Otherwise it is the failure of reading: the path of
+/// a [`Mismatch`](crate::Mismatch) leads to the first part that isn't read, whose own fault it is. The input is parsed once and read once.
 /// Parsing, reading and the explanation allocate; the only error is a failed allocation.
 ///
 /// ```
@@ -60,11 +59,13 @@ fn explain_tree(
 ) -> Result<Option<Explanation>, AllocError>
     ensures { ExplainsTree (are_rejected config.duplicates) (shape_of shape.now) (tree_of tree.now) result }
 {
-    let Some(mismatch) = find_mismatch(alloc, config, shape, tree)? else {
-        return Ok(None);
+    let unread = match read_with_path(alloc, config, shape, tree) {
+        Ok(_) => return Ok(None),
+        Err(Failure::OutOfMemory) => return Err(AllocError),
+        Err(Failure::Unread(unread)) => unread,
     };
     match tree {
         ParsedValue::Uninitialized => Ok(Some(Explanation::NoPairs)),
-        _ => Ok(Some(Explanation::Mismatch(mismatch))),
+        _ => Ok(Some(Explanation::Mismatch(Box::into_inner(unread).mismatch))),
     }
 }

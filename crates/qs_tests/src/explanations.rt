@@ -35,7 +35,7 @@ Struct:at Tuple:2 I8 I8
     at[]=1&at[]=x | at[1]: expected i8, found the text \"x\"
 Struct:user Struct:name:age Text U8
     user[]=Alice&user[]=7 |
-    user[]=Alice&user[]=x | user: expected fields, found several values
+    user[]=Alice&user[]=x | user[1]: expected u8, found the text \"x\"
 
 # unexpected keys
 Struct:user StrictStruct:name:age Text U8
@@ -80,7 +80,7 @@ Struct:who Enum:2 struct:Lax:name:age Text U8 strict:Strict:zip U32
     who[Lax][name]=Alice                                 | who[Lax][age]: expected u8, found nothing
     who[Strict][zip]=1&who[Strict][zap]=2                | who[Strict]: unexpected key \"zap\"
     who[Strict][]=1&who[Strict][]=2                      |
-    who[Lax]=x                                           | who: expected one of \"Lax\", \"Strict\", found nested keys
+    who[Lax]=x                                           | who[Lax][name]: expected a text, found nothing
 
 # no pairs: the empty input has none either, but its tree is read
 Struct:age U8

@@ -115,10 +115,10 @@ fn is_utf8_key(key: &Key<'_>) -> bool
     }
 }
 
-// Returns whether bytes are UTF-8, as `test_text` tests it.
+/// Returns whether bytes are UTF-8, as `test_text` tests it.
 #[inline(always)]
 #[tactic(auto, using(crate::proofs::lemmas::read::Errors::utf8_tests, crate::proofs::lemmas::read::Numbers::ascii_text))]
-fn is_text(text: &[u8]) -> bool
+pub(crate) fn is_text(text: &[u8]) -> bool
     ensures { result ≡ is_utf8 text.now }
 {
     text.is_ascii() || str::from_utf8(text).is_ok()

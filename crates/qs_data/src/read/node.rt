@@ -1,6 +1,6 @@
 //! One node of a tree: what a shape reads from it, and what is found under a name in it.
 
-ghost use Rattle.std.specs.Prelude.{◌≡◌, true};
+ghost use Rattle.std.specs.Prelude.{◌≡◌, IfErr, true};
 ghost use Rattle.qs_spec.specs.Config.{are_rejected};
 ghost use Rattle.qs_spec.specs.Node.{found};
 ghost use Rattle.qs_spec.specs.Shape.{is_distinct};
@@ -9,13 +9,15 @@ ghost use Rattle.qs_data.specs.data.Views.{data_of};
 ghost use Rattle.qs_data.specs.shape.Views.{shape_of};
 ghost use Rattle.qs_data.specs.read.TreeText.{is_text};
 ghost use Rattle.qs_data.specs.read.Reads.{reads};
+ghost use Rattle.qs_data.specs.failure.Fails.{Fails, GivesOrFails};
 ghost use Rattle.qs_data.specs.read.Gives.{Gives};
 ghost use Rattle.qs_data.specs.read.Errors.{OnlyCustomUtf8OrOutOfMemory};
 ghost use Rattle.qs_data.specs.read.Found.{IsFound};
 ghost use Rattle.qs_data.specs.read.Parsed.{ReturnsData};
 
 use crate::data::Data;
-use crate::read::by_shape::{Reader, read};
+use crate::failure::Failure;
+use crate::read::by_shape::{Reader, read, read_node};
 use crate::read::key_test::test_keys;
 use crate::read::keys::{Found, NodeEntries, find};
 use crate::shape::Shape;
@@ -43,6 +45,30 @@ pub fn read_value(
     ensures errors { OnlyCustomUtf8OrOutOfMemory result }
 {
     read(Reader::new(alloc, config), shape, node)
+}
+
+/// Reads one node of a tree by a shape like [`read_value`], but a failure says which part isn't read: the path to it, what is expected
+/// there, and what stands there.
+///
+/// The fault is that part's own: a text that its shape doesn't read, a key that its shape doesn't allow, a missing field or item. The
+/// part is the first that reading comes to, in the order of [`Deserializer::read`](crate::Deserializer::read). It takes time like that
+/// call, and after an error as much again at most for each map whose keys are to blame.
+///
+/// ```
+/// if let Err(Failure::Unread(unread)) = read_with_path(alloc, Config::new(), &shape, node) {
+///     println!(rt; "{}", unread.mismatch)?; // user[age]: expected u8, found the text "x"
+/// }
+/// ```
+pub fn read_with_path(
+    alloc: Global,
+    config: Config,
+    shape: &Shape,
+    node: &ParsedValue<'_>,
+) -> std::result::Result<Data, Failure>
+    ensures exact { GivesOrFails data_of (is_text (tree_of node.now)) result (reads (are_rejected config.duplicates) (shape_of shape.now) (tree_of node.now)) }
+    ensures fails { IfErr result (Fails (are_rejected config.duplicates) (shape_of shape.now) (tree_of node.now)) }
+{
+    read_node(Reader::new(alloc, config), shape, node)
 }
 
 /// Looks up the value under a name, as a field of a struct is looked up: under the string key, or under the integer key whose digits

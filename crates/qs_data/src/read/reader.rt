@@ -351,8 +351,8 @@ impl Reader {
     }
 }
 
-// Returns the error of a node that holds no struct. For a text that isn't UTF-8, the error says so.
-fn struct_error(alloc: Global, node: &ParsedValue<'_>) -> ReadError
+/// Returns the error of a node that holds no struct. For a text that isn't UTF-8, the error says so.
+pub(crate) fn struct_error(alloc: Global, node: &ParsedValue<'_>) -> ReadError
     ensures { ReadRejects {Y = Unit {0}} (is_text (tree_of node.now)) result None }
 {
     if let ParsedValue::String(text) = node {

@@ -10,8 +10,8 @@ use Rattle.qs_tree.specs.declared.tree.value.ParsedValue.{ParsedValue}
 use Rattle.qs_tree.specs.tree.Views.{tree_of}
 use Rattle.qs_explain.specs.declared.explanation.Explanation.{Explanation}
 use Rattle.qs_explain.specs.declared.explanation.Explanation.TheVariants as e
-use Rattle.qs_explain.specs.Parts.{ReadsSome}
-use Rattle.qs_explain.specs.Explains.{IsMismatch, is_uninitialized}
+use Rattle.qs_data.specs.failure.Mismatch.{IsMismatch}
+use Rattle.qs_explain.specs.Explains.{ReadsSome, is_uninitialized}
 
 -- why the shape reads nothing from a tree: it has no pairs, or a part of it isn't read
 abbrev pub ExplainsTree : {E : Type 0} → Bool → Shape → Tree → Result (Option Explanation) E → Type 0

@@ -1,7 +1,7 @@
 use Rattle.std.proofs.Common.{◌≡◌, ◌++◌, false, drop, map}
 use Rattle.qs_spec.specs.Segment.{segment_text}
 use Rattle.qs_spec.specs.Written.{brackets_text}
-use Rattle.qs_explain.specs.Explains.{segment_of}
+use Rattle.qs_data.specs.failure.Mismatch.{segment_of}
 use Rattle.qs_c.proofs.explaining.append_in_brackets.Given as goal
 
 abbrev pub invariant-loop-segment : goal.invariant-loop-segment

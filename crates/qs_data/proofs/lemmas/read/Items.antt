@@ -139,7 +139,15 @@ first_end [] h = refl
 first_end (None ∷ xs) h = absurd cc
 first_end (Some t ∷ xs) h = absurd cc
 
+none_due : (r : Reader) (xs : List (Option Tree)) → first_item xs ≡ None → read_each r xs ≡ None
+none_due r [] h = absurd cc
+none_due r (None ∷ xs) h = refl
+none_due r (Some t ∷ xs) h = absurd cc
+
 module _ (r : Reader) (xs : List (Option Tree)) (i : ℕ) (ws : List Data) where
+  pub each_missing : first_item (drop i xs) ≡ None → before ws (read_each r (drop i xs)) ≡ None
+  each_missing h = ap (before ws) (none_due r (drop i xs) h)
+
   pub each_more : (t : Tree) (d : Data) → first_item (drop i xs) ≡ Some (Some t) → r t ≡ Some d → before ws (read_each r (drop i xs)) ≡ before (ws ++ d ∷ []) (read_each r (drop (i + 1) xs))
   each_more t d h g =
       ap (λ ys. before ws (read_each r ys)) (first_some xs i t h)

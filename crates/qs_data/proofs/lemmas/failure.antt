@@ -1,0 +1,5 @@
+pub mod Unread
+pub mod Failures
+pub mod Kinds
+pub mod Fields
+pub mod Keys

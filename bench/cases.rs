@@ -128,6 +128,7 @@ pub fn all(small: bool) -> Vec<Case> {
         cases.extend(series(large, |count| map(count, order)));
     }
     let many = if small { 100 } else { 1_000 };
+    cases.extend(of_choices(many, len));
     cases.extend([
         elements(many),
         pushed(many),
@@ -221,6 +222,33 @@ fn escaped(count: usize) -> Case {
     };
     let input = inputs::pairs(count, Order::InOrder, "k%65y", "");
     Case::new(name, input, Call::Parse(keys))
+}
+
+/// Small inputs, and loads for which docs/DECISIONS.md says what a choice gains.
+fn of_choices(many: usize, len: usize) -> Vec<Case> {
+    let parsed = |name: &str, input: String, root: usize, first: usize| {
+        let keys = Keys { root, first };
+        Case::new(format!("parse {name}"), input, Call::Parse(keys))
+    };
+    let in_turns = inputs::keyed(many, |place| format!("a[{}][b][{}]", place % 2, place / 2));
+    let letters = Generator::new().letters(38);
+    let wanted = format!("a+{letters}").into_bytes();
+    vec![
+        flat(1, Order::InOrder),
+        parsed("the record of ten entries", data::RECORD.into(), 5, 3),
+        parsed("two lists three deep, in turns", in_turns, 1, 2),
+        Case::new("parse `[`", "[".repeat(len), Call::Reject),
+        parsed("`]`", "]".repeat(len), 1, 0),
+        parsed("`&`", "&".repeat(len), 0, 0),
+        Case::new(
+            "encode 40 bytes with a space at the second",
+            format!("a {letters}"),
+            Call::Encode {
+                form: false,
+                wanted,
+            },
+        ),
+    ]
 }
 
 /// A conflict at the front, and keys that run over each `&` to the end.

@@ -1,10 +1,10 @@
 -- What explains a result of parsing explains the input that was parsed.
-use Rattle.std.proofs.Common.{◌≡◌, ◌≢◌, ℕ, Bool, List, [], ◌∷◌, Option, Some, None, Result, Ok, Err, refl, sym, subst, ap}
+use Rattle.std.proofs.Common.{◌≡◌, ◌≢◌, ℕ, Bool, List, [], ◌∷◌, Option, Some, None, Result, Ok, Err, refl, sym, subst}
 use Rattle.qs_spec.specs.Config.{Config, are_rejected}
 use Rattle.qs_spec.specs.Holds.{leaf_count}
 use Rattle.qs_spec.specs.Input.{HasPairs}
 use Rattle.qs_spec.specs.Shape.{Shape}
-use Rattle.qs_spec.specs.Tree.{Tree, IsTree, HasNoTree}
+use Rattle.qs_spec.specs.Tree.{IsTree, HasNoTree}
 use Rattle.qs_spec.specs.Tree.Tree.{uninitialized}
 use Rattle.qs_spec.specs.internal.ReadFunction.{reads}
 use Rattle.qs_tree.specs.Parsing.{Parses}

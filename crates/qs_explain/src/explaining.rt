@@ -6,10 +6,10 @@ ghost use Rattle.qs_spec.specs.Shape.{is_distinct};
 ghost use Rattle.qs_tree.specs.tree.Views.{tree_of};
 ghost use Rattle.qs_data.specs.shape.Views.{shape_of};
 ghost use Rattle.qs_explain.specs.Explains.{Explains, ExplainsUnread};
-ghost use Rattle.qs_explain.specs.internal.Parsed.{ExplainsParsed, ExplainsTree};
+ghost use Rattle.qs_explain.specs.internal.Parsed.{ExplainsParsed, ExplainsTree, IsOfTree};
 
 use crate::explanation::Explanation;
-use qs_data::{Config, Error, Failure, Shape, read_with_path};
+use qs_data::{Config, Error, Failure, Mismatch, ReadError, Shape, Unread, read_with_path};
 use qs_tree::{ParsedValue, parse};
 use std::alloc::{AllocError, Global};
 
@@ -59,13 +59,24 @@ fn explain_tree(
 ) -> Result<Option<Explanation>, AllocError>
     ensures { ExplainsTree (are_rejected config.duplicates) (shape_of shape.now) (tree_of tree.now) result }
 {
-    let unread = match read_with_path(alloc, config, shape, tree) {
+    let Unread { mismatch, error } = match read_with_path(alloc, config, shape, tree) {
         Ok(_) => return Ok(None),
         Err(Failure::OutOfMemory) => return Err(AllocError),
-        Err(Failure::Unread(unread)) => unread,
+        Err(Failure::Unread(unread)) => Box::into_inner(unread),
     };
+    match error {
+        ReadError::OutOfMemory => Err(AllocError),
+        ReadError::Custom(_) => Ok(Some(explanation_of(tree, mismatch))),
+        ReadError::Utf8(_) => Ok(Some(explanation_of(tree, mismatch))),
+    }
+}
+
+// Returns the explanation of a tree that isn't read.
+fn explanation_of(tree: &ParsedValue<'_>, mismatch: Mismatch) -> Explanation
+    ensures { IsOfTree (tree_of tree.now) mismatch result }
+{
     match tree {
-        ParsedValue::Uninitialized => Ok(Some(Explanation::NoPairs)),
-        _ => Ok(Some(Explanation::Mismatch(Box::into_inner(unread).mismatch))),
+        ParsedValue::Uninitialized => Explanation::NoPairs,
+        _ => Explanation::Mismatch(mismatch),
     }
 }

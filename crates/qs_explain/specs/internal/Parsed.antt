@@ -1,5 +1,5 @@
 -- What explains a result of parsing: steps to an explanation of its input.
-use Rattle.std.specs.Prelude.{◌≡◌, ◌≢◌, ⊤, Bool, true, false, Option, Some, None, Result, Ok, Err}
+use Rattle.std.specs.Prelude.{◌≡◌, ◌≢◌, ⊤, Bool, false, Option, Some, None, Result, Ok, Err}
 use Rattle.qs_spec.specs.Shape.{Shape}
 use Rattle.qs_spec.specs.Tree.{Tree}
 use Rattle.qs_spec.specs.Tree.Tree.{uninitialized}
@@ -10,6 +10,7 @@ use Rattle.qs_tree.specs.declared.tree.value.ParsedValue.{ParsedValue}
 use Rattle.qs_tree.specs.tree.Views.{tree_of}
 use Rattle.qs_explain.specs.declared.explanation.Explanation.{Explanation}
 use Rattle.qs_explain.specs.declared.explanation.Explanation.TheVariants as e
+use Rattle.qs_data.specs.declared.failure.mismatch.Mismatch.{Mismatch}
 use Rattle.qs_data.specs.failure.Mismatch.{IsMismatch}
 use Rattle.qs_explain.specs.Explains.{ReadsSome, is_uninitialized}
 
@@ -20,6 +21,12 @@ ExplainsTree reject_duplicates s n (Ok (Some (e.Syntax error))) = ⊥
 ExplainsTree reject_duplicates s n (Ok (Some e.NoPairs)) = (n ≡ uninitialized) × (reads reject_duplicates s n ≡ None)
 ExplainsTree reject_duplicates s n (Ok (Some (e.Mismatch m))) = (is_uninitialized n ≡ false) × (reads reject_duplicates s n ≡ None) × IsMismatch reject_duplicates s n m
 ExplainsTree reject_duplicates s n (Err e) = ⊤
+
+-- the explanation of a tree that isn't read, for a part of which this was said
+abbrev pub IsOfTree : Tree → Mismatch → Explanation → Type 0
+IsOfTree n m (e.Syntax error) = ⊥
+IsOfTree n m e.NoPairs = n ≡ uninitialized
+IsOfTree n m (e.Mismatch x) = (is_uninitialized n ≡ false) × (x ≡ m)
 
 -- the error of parsing itself is the explanation
 abbrev pub Carries : {E : Type 0} → Error → Result (Option Explanation) E → Type 0

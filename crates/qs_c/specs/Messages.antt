@@ -1,7 +1,6 @@
 -- What the text of an error says.
 use Rattle.std.specs.Prelude.{◌≡◌, ⊤, ℕ, nat_lt, cond, List, [], length, codes}
 use Rattle.std.specs.Str.{is_utf8}
-use Rattle.qs_tree.specs.Error.{error_text}
 use Rattle.qs_tree.specs.declared.error.Error.{Error}
 use Rattle.qs_tree.specs.declared.error.Error.TheVariants as e
 use Rattle.qs_c.specs.declared.failure.FailureKind.{FailureKind}

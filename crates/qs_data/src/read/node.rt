@@ -47,8 +47,8 @@ pub fn read_value(
     read(Reader::new(alloc, config), shape, node)
 }
 
-/// Reads one node of a tree by a shape like [`read_value`], but a failure says which part isn't read: the path to it, what is expected
-/// there, and what stands there.
+/// Reads one node of a tree by a shape, as [`read_value`] does. A failure says which part isn't read: it has the path to the part, what was
+/// expected there and what was found.
 ///
 /// The fault is that part's own: a text that its shape doesn't read, a key that its shape doesn't allow, a missing field or item. The
 /// part is the first that reading comes to, in the order of [`Deserializer::read`](crate::Deserializer::read). It takes time like that

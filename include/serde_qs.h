@@ -37,7 +37,7 @@ enum {
     QS_OUT_OF_MEMORY = 2, /* an allocation failed; this error has no text */
     QS_BAD_SETTINGS = 3,  /* a number in the settings is too large */
     QS_PARSE_ERROR = 4,   /* the querystring is rejected, at `position` */
-    QS_MISMATCH = 5,      /* the querystring doesn't fit the shape, or the part at the path isn't a value */
+    QS_MISMATCH = 5,      /* the querystring doesn't fit the shape, the part at the path isn't a value, or two keys have one text */
     QS_NOT_UTF8 = 6,      /* a string that is read isn't UTF-8 */
     QS_BAD_SHAPE = 7,     /* the shape is rejected, at `position` */
     QS_BAD_JSON = 8,      /* the JSON is rejected, at `position` */
@@ -85,7 +85,8 @@ typedef struct {
 uint32_t qs_get(const qs_settings *settings, const uint8_t *path, size_t path_size, const uint8_t *input, size_t input_size,
                 uint8_t *out, size_t out_size, qs_answer *answer);
 
-/* Reads the querystring into JSON, whatever it holds: `null`, strings, lists and maps. */
+/* Reads the querystring into JSON, whatever it holds. A list is an array, and so is a map whose keys are 0, 1 and so on; any other map is
+ * an object. A key alone is `null`, and no pairs at all are `{}`. A value without a key is under the empty name. */
 uint32_t qs_parse(const qs_settings *settings, const uint8_t *input, size_t input_size, uint8_t *out, size_t out_size,
                   qs_answer *answer);
 

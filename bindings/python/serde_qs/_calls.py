@@ -133,7 +133,7 @@ _dicts = json.JSONDecoder(object_pairs_hook=_dict)
 _pairs = json.JSONDecoder(object_pairs_hook=list)
 
 
-def _decoded(text: bytes, pairs: bool) -> Any:
+def _decoded(text: bytes, pairs: bool = False) -> Any:
     return (_pairs if pairs else _dicts).decode(text.decode())
 
 
@@ -153,19 +153,23 @@ def get(path: Text, query: Text, default: Any = None, **settings: Unpack[Setting
     return _text(value, "the value isn't UTF-8")
 
 
-def parse(query: Text, *, pairs: bool = False, **settings: Unpack[Settings]) -> Any:
-    """Reads the querystring, whatever it holds: None, strings, lists and dicts.
+def parse(query: Text, **settings: Unpack[Settings]) -> Any:
+    """Reads the querystring, whatever it holds: a dict of strings, None, lists and dicts, or a list.
 
-    Two keys of one map may have the same text, as in `1=a&%31=b`. That is an error, unless `pairs` is true: then each dict is a list of
-    pairs instead.
+    A map whose keys are exactly 0 to n-1 is a list, and any other map a dict. A key alone, as `a`, is None, and a value without a key is
+    under the empty name. An empty querystring is `{}`. It is an error if two keys of one map have the same text, as in `1=a&%31=b`.
+
+    `loads(dumps(x)) == x` for each dict or list `x` of strings, None, lists and dicts, if it isn't nested too deep, no list, dict or name
+    in it is empty, and no name consists of digits.
     """
-    return _decoded(_result(library.qs_parse, _settings(**settings), *_sized(query)), pairs)
+    return _decoded(_result(library.qs_parse, _settings(**settings), *_sized(query)))
 
 
 def read(shape: Text, query: Text, *, pairs: bool = False, **settings: Unpack[Settings]) -> Any:
-    """Reads the querystring by a shape, such as `{user: {name: text}}`. `pairs` is as for `parse`.
+    """Reads the querystring by a shape, such as `{user: {name: text}}`.
 
-    A shape is text in the library's notation, or what `shape_of` returns for a class.
+    A shape is text in the library's notation, or what `shape_of` returns for a class. Two keys of one map may have the same text, as in
+    `1=a&%31=b`. That is an error, unless `pairs` is true: then each dict is a list of pairs instead.
     """
     try:
         text = _result(library.qs_read, _settings(**settings), *_sized(shape), *_sized(query))

@@ -13,7 +13,7 @@ pub enum ErrorKind {
     BadSettings = 3,
     /// The querystring is rejected, at the error's position.
     Parse = 4,
-    /// The querystring doesn't fit the shape or the type, or the part at the path isn't a value.
+    /// The querystring doesn't fit the shape or the type, the part at the path isn't a value, or two keys have one text.
     Mismatch = 5,
     /// A string that is read isn't UTF-8.
     NotUtf8 = 6,

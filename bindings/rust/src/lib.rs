@@ -38,15 +38,21 @@ pub fn get(path: impl AsRef<[u8]>, query: impl AsRef<[u8]>) -> Result<Option<Vec
     Settings::default().get(path, query)
 }
 
-/// Reads the querystring into JSON, whatever it holds: `null`, strings, lists and maps.
+/// Reads the querystring into JSON, whatever it holds.
+///
+/// A list is an array, and so is a map whose keys are 0, 1 and so on; any other map is an object. A key alone is `null`, and no pairs at
+/// all are `{}`. A value without a key is under the empty name.
 ///
 /// # Errors
 ///
-/// [`ErrorKind::Parse`], with its position, if the querystring can't be parsed; [`ErrorKind::Mismatch`] or [`ErrorKind::NotUtf8`] if it is
-/// parsed, but can't be read; [`ErrorKind::OutOfMemory`].
+/// [`ErrorKind::Parse`], with its position, if the querystring can't be parsed; [`ErrorKind::Mismatch`] or [`ErrorKind::NotUtf8`] if a
+/// string or a key isn't UTF-8; [`ErrorKind::Mismatch`] if two keys of a map have the same text, as in `1=a&%31=b`;
+/// [`ErrorKind::OutOfMemory`].
 ///
 /// ```
 /// assert_eq!(serde_qs_proved::parse("a[b]=1")?, r#"{"a":{"b":"1"}}"#);
+/// assert_eq!(serde_qs_proved::parse("ids[17]=on&ids[23]=on")?, r#"{"ids":{"17":"on","23":"on"}}"#);
+/// assert_eq!(serde_qs_proved::parse("")?, "{}");
 /// # Ok::<(), serde_qs_proved::Error>(())
 /// ```
 pub fn parse(query: impl AsRef<[u8]>) -> Result<String, Error> {
@@ -57,7 +63,8 @@ pub fn parse(query: impl AsRef<[u8]>) -> Result<String, Error> {
 ///
 /// # Errors
 ///
-/// [`ErrorKind::BadShape`], with its position, if the text isn't a shape; otherwise the errors of [`parse`].
+/// [`ErrorKind::BadShape`], with its position, if the text isn't a shape; [`ErrorKind::Mismatch`] or [`ErrorKind::NotUtf8`] if the
+/// querystring is parsed, but the shape doesn't read it; [`ErrorKind::Parse`] and [`ErrorKind::OutOfMemory`], as of [`parse`].
 ///
 /// ```
 /// assert_eq!(serde_qs_proved::read("{age: u8}", "age=24")?, r#"{"age":24}"#);

@@ -143,10 +143,14 @@ def fastest(call):
 class Calls(unittest.TestCase):
     def test_reads_as_json_does(self):
         self.assertEqual(serde_qs.loads("a[b]=1&c&d="), {"a": {"b": "1"}, "c": None, "d": ""})
-        self.assertEqual(serde_qs.loads(""), None)
+        self.assertEqual(serde_qs.loads(""), {})
         self.assertEqual(serde_qs.dumps({"a": {"b": [1, True, None]}}), "a[b][0]=1&a[b][1]=true&a[b][2]")
         for text in (b"a=1", bytearray(b"a=1"), memoryview(b"a=1")):
             self.assertEqual(serde_qs.loads(text), {"a": "1"})
+
+    def test_what_is_written_comes_back(self):
+        for value in ({"a": "1", "b": ""}, {"ids": {"17": "on", "23": "on"}}, {"2024": "x"}, {"a": [["1", None], [["2"]], {"b": ["3"]}]}, ["a", {"b": "c"}], {"é &=[b]": {"+%": "#"}}):
+            self.assertEqual(serde_qs.loads(serde_qs.dumps(value)), value)
 
     def test_a_value_is_got(self):
         query = "user[name]=John+B.&ids[]=7&ids[]=8&raw=%FF"
@@ -168,12 +172,17 @@ class Calls(unittest.TestCase):
 
     def test_no_value_is_lost(self):
         query, pairs = "1=a&%31=b", [("1", "a"), ("1", "b")]
-        with self.assertRaisesRegex(serde_qs.QuerystringError, "two keys of a map have the text `1`") as caught:
-            serde_qs.parse(query)
-        self.assertEqual((caught.exception.status, caught.exception.position), (5, 0))
+        calls = (lambda: serde_qs.parse(query), "duplicate field `1`"), (lambda: serde_qs.read("any", query), "two keys of a map have the text `1`")
+        for call, message in calls:
+            with self.assertRaisesRegex(serde_qs.QuerystringError, message) as caught:
+                call()
+            self.assertEqual((caught.exception.status, caught.exception.position), (5, 0))
         self.assertRaises(serde_qs.QuerystringError, serde_qs.read_as, typing.Dict[str, str], query)
-        self.assertEqual(serde_qs.parse(query, pairs=True), pairs)
         self.assertEqual(serde_qs.read("map(text, text)", query, pairs=True), pairs)
+
+    def test_a_broken_key_with_a_bracket_has_a_hint(self):
+        with self.assertRaisesRegex(serde_qs.QuerystringError, "consider using form encoding mode"):
+            serde_qs.parse("a=1&b%5B%FF%5D=1")
 
     def test_a_lone_surrogate_is_an_error_of_this_module(self):
         for call in (serde_qs.parse, serde_qs.write, serde_qs.encode, serde_qs.decode):

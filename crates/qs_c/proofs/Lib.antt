@@ -6,6 +6,7 @@ pub mod LineStarts
 pub mod Listing
 pub mod Messages
 pub mod Outcomes
+pub mod Parts
 pub mod Paths
 pub mod Stopping
 pub mod Unwritten

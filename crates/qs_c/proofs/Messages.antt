@@ -17,7 +17,7 @@ use Rattle.qs_c.specs.declared.settings.Settings.{Settings}
 use Rattle.qs_c.specs.Errors.{kind_of, position_of, IsFailureOf, IsTextOf}
 use Rattle.qs_c.specs.internal.Unwritten.{IsUnwritten}
 use Rattle.qs_c.specs.Messages.{IsErrorText, SaysUnread, SaysNotRead, SaysUnwritten, SaysNotWritten, not_json_text}
-use Rattle.qs_c.specs.Outcomes.{WhyUnread}
+use Rattle.qs_c.specs.Outcomes.{WhyUnread, WhyUnparsed}
 use Rattle.qs_c.specs.Paths.{WhyNoBytes}
 use Rattle.qs_c.specs.Settings.{config_of}
 use Rattle.qs_c.specs.Status.{text_of, text_or_none, MemoryHasNoText}
@@ -78,6 +78,10 @@ module _ (failure : Failure) where
   pub failure_unread : (error : Error) (config : Config) (shape : Shape) (input : List ℕ)
       → IsFailureOf failure error → MemoryHasNoText failure → WhyUnread (kind_of error) (position_of error) config shape input → SaysUnread failure.kind failure.position (text_of failure)
   failure_unread error config shape input is m why = failure_of_reading error is m (λ deep. subst (λ k. WhyUnread k (position_of error) config shape input) deep why)
+
+  pub failure_unparsed : (error : Error) (config : Config) (input : List ℕ)
+      → IsFailureOf failure error → MemoryHasNoText failure → WhyUnparsed (kind_of error) (position_of error) config input → SaysUnread failure.kind failure.position (text_of failure)
+  failure_unparsed error config input is m why = failure_of_reading error is m (λ deep. subst (λ k. WhyUnparsed k (position_of error) config input) deep why)
 
   pub failure_without_bytes : (error : Error) (config : Config) (path : List Segment) (input : List ℕ)
       → IsFailureOf failure error → MemoryHasNoText failure → WhyNoBytes (kind_of error) (position_of error) config path input → SaysUnread failure.kind failure.position (text_of failure)

@@ -15,4 +15,5 @@ pub mod Settings
 pub mod Shown
 pub mod Status
 pub mod Taken
+pub mod Trees
 pub mod internal

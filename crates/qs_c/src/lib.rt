@@ -17,6 +17,7 @@ pub mod reading;
 mod settings;
 mod showing;
 mod taking;
+mod trees;
 pub mod version;
 pub mod writing;
 

@@ -5,7 +5,6 @@
 ghost use Rattle.std.specs.Prelude.{◌≡◌, true, List, ℕ, length, IfOk, IfErr};
 ghost use Rattle.std.specs.Str.{IsUtf8};
 ghost use Rattle.qs_spec.specs.Shape.{is_distinct};
-ghost use Rattle.qs_spec.specs.Shape.Shape.{any};
 ghost use Rattle.qs_data.specs.data.Views.{data_of};
 ghost use Rattle.qs_data.specs.shape.Views.{shape_of};
 ghost use Rattle.qs_c.specs.Answer.{IsHandedOut, IsLaidOut, LeavesNothing};
@@ -13,7 +12,7 @@ ghost use Rattle.qs_c.specs.Errors.{kind_of, position_of};
 ghost use Rattle.qs_c.specs.Limits.{IsBeyond, IsTooLarge};
 ghost use Rattle.qs_c.specs.Messages.{SaysNotRead, SaysUnread};
 ghost use Rattle.qs_c.specs.Notation.{IsNoNotation};
-ghost use Rattle.qs_c.specs.Outcomes.{IsRead, IsReadBy, IsReadByText, WhyNoJson, WhyNotParsed, WhyNotRead, WhyUnread};
+ghost use Rattle.qs_c.specs.Outcomes.{IsParsed, IsRead, IsReadBy, IsReadByText, WhyNoJson, WhyNotParsed, WhyNotRead, WhyUnparsed, WhyUnread};
 ghost use Rattle.qs_c.specs.Settings.{config_of, AreNone};
 ghost use Rattle.qs_c.specs.Status.{code_of, text_of, IsDone, IsHeldBack, IsStoppedEarly, MemoryHasNoText};
 ghost use Rattle.qs_c.specs.declared.failure.FailureKind.{FailureKind};
@@ -26,10 +25,15 @@ use crate::limits::test_output;
 use crate::notation::shape_of_text;
 use crate::settings::Settings;
 use crate::showing::to_json;
+use crate::trees::tree_to_json;
 use qs_data::{Config, Data, Deserializer, Shape};
+use qs_tree::parse;
 use std::alloc::Global;
 
-/// Reads the querystring into JSON, whatever it holds: `null`, strings, lists and maps.
+/// Reads the querystring into JSON, whatever it holds.
+///
+/// A list is an array, and so is a map whose keys are 0, 1 and so on; any other map is an object, with the texts of its keys as names. A
+/// key alone, as `a`, is `null`, and `a=` is an empty string. Without pairs the JSON is `{}`. A value without a key is under the empty name.
 ///
 /// Returns 0 and puts the JSON at the front of `out`, or returns 1 if it doesn't fit there. `answer.len` is its length. Any other status
 /// is an error: `answer.len` is the length of its text, which is at the front of `out` if it fits there. The position is 0 except as the
@@ -38,11 +42,11 @@ use std::alloc::Global;
 /// - 2: an allocation failed; there is no text.
 /// - 3: a number in the settings is too large.
 /// - 4: the querystring can't be parsed. The position is how many of its bytes were parsed, plus one if the end was reached.
-/// - 5 or 6: the querystring is parsed, but can't be read.
+/// - 5 or 6: a string or a key isn't UTF-8, or two keys of a map have the same text, as in `1=a&%31=b` (5).
 /// - 10: the querystring is larger than the settings allow. That is tested before it is parsed.
 /// - 11: the JSON is longer than the settings allow.
 ///
-/// It allocates for the tree, the data and the JSON, and frees them before it returns. The time grows with the input and the JSON.
+/// It allocates for the tree and the JSON, and frees them before it returns. The time grows with the input and the JSON.
 ///
 /// ```
 /// uint32_t status = qs_parse(&qs_default, QS_TEXT("a[b]=1"), QS_ROOM(out), &answer); // {"a":{"b":"1"}}
@@ -55,7 +59,7 @@ pub extern "C" fn qs_parse(
     out: &mut [u8],
     answer: &mut Answer,
 ) -> u32
-    ensures done { IsDone result → (text : List ℕ) × IsRead (config_of settings.now) any input.now text
+    ensures done { IsDone result → (text : List ℕ) × IsParsed (config_of settings.now) input.now text
         × IsHandedOut text out.old out.new result answer.new.len }
     ensures position { IsDone result → answer.new.position ≡ 0 }
     ensures failed { (IsDone result → ⊥) → (kind : FailureKind) × (result ≡ code_of kind) × WhyNotParsed kind answer.new.position settings.now input.now }
@@ -74,9 +78,10 @@ pub extern "C" fn qs_parse(
 
 /// Reads the querystring into JSON by a shape in the notation of docs/LIBRARY.md.
 ///
-/// Returns the same statuses as [`qs_parse`], and one more, which takes precedence over 4, 5, 6 and 11:
+/// Returns the same statuses as [`qs_parse`], but:
 ///
-/// - 7: the text isn't a shape. The position is how many of its bytes were parsed.
+/// - 5 or 6: the querystring is parsed, but the shape doesn't read it.
+/// - 7: the text isn't a shape. The position is how many of its bytes were parsed. This takes precedence over 4, 5, 6 and 11.
 ///
 /// It allocates for the shape too, and frees it before it returns. The time grows with the text of the shape, the input and the JSON.
 ///
@@ -110,9 +115,9 @@ pub extern "C" fn qs_read(
     }
 }
 
-// Returns the JSON of what `any` reads.
+// Returns the JSON of the querystring's tree.
 fn parsed(alloc: Global, settings: &Settings, input: &[u8]) -> Result<Vec<u8>, Failure>
-    ensures text { IfOk result (λ text. IsRead (config_of settings.now) any input.now text.items) }
+    ensures text { IfOk result (λ text. IsParsed (config_of settings.now) input.now text.items) }
     ensures none { IfErr result (λ failure. WhyNotParsed failure.kind failure.position settings.now input.now) }
     ensures says { IfErr result (λ failure. SaysNotRead failure.kind failure.position settings.now input.now (text_of failure)) }
     ensures memory { IfErr result MemoryHasNoText }
@@ -124,7 +129,19 @@ fn parsed(alloc: Global, settings: &Settings, input: &[u8]) -> Result<Vec<u8>, F
 {
     let config = settings.config(alloc)?;
     settings.test_input(alloc, input)?;
-    read_json(alloc, config, settings.max_output, &Shape::Any, input)
+    match json_of_input(alloc, config, input) {
+        Ok(text) => test_output(alloc, settings.max_output, text),
+        Err(error) => Err(failure_of(alloc, error)),
+    }
+}
+
+// Returns the JSON of the input's tree.
+fn json_of_input(alloc: Global, config: Config, input: &[u8]) -> qs_data::Result<Vec<u8>>
+    ensures text { IfOk result (λ text. IsParsed config input.now text.items) }
+    ensures none { IfErr result (λ error. WhyUnparsed (kind_of error) (position_of error) config input.now) }
+{
+    let tree = parse(alloc, input, config)?;
+    Ok(tree_to_json(alloc, &tree)?)
 }
 
 // Parses the shape, and returns the JSON of what it reads.

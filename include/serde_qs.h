@@ -100,6 +100,13 @@ uint32_t qs_read(const qs_settings *settings, const uint8_t *shape, size_t shape
 uint32_t qs_explain(const qs_settings *settings, const uint8_t *shape, size_t shape_size, const uint8_t *input, size_t input_size,
                     uint8_t *out, size_t out_size, qs_answer *answer);
 
+/* Explains each field of a struct that a shape doesn't read, a line each, for a page that shows an error beside each of its fields. A line
+ * has the form of one of qs_explain, and a line feed after it. Its path is what precedes its first blank, without the colon; if there is no
+ * colon, the line has no path: the querystring is wrong as a whole. That line is the first. There is none if the shape reads the
+ * querystring. */
+uint32_t qs_explain_fields(const qs_settings *settings, const uint8_t *shape, size_t shape_size, const uint8_t *input, size_t input_size,
+                           uint8_t *out, size_t out_size, qs_answer *answer);
+
 /* Writes the JSON as a querystring. */
 uint32_t qs_write(const qs_settings *settings, const uint8_t *json, size_t json_size, uint8_t *out, size_t out_size,
                   qs_answer *answer);

@@ -11,6 +11,7 @@
 #include <string>
 #include <string_view>
 #include <utility>
+#include <vector>
 
 namespace serde_qs {
 
@@ -104,6 +105,23 @@ inline std::optional<explanation> explain(std::string_view shape, std::string_vi
     if (line.empty())
         return std::nullopt;
     return explanation{line.substr(0, length), line};
+}
+
+/* Explains each field of a struct that a shape doesn't read: its path and the reason. The path is empty if the querystring can't be parsed or is
+ * wrong as a whole. There are none if the shape reads the querystring. */
+inline std::vector<std::pair<std::string, std::string>> explain_fields(std::string_view shape, std::string_view query,
+                                                                       const settings &with = qs_default) {
+    const std::string lines = detail::taken(detail::ask(query.size(), [&](uint8_t *out, std::size_t size, qs_answer *answer) {
+        return qs_explain_fields(&with, detail::bytes(shape), shape.size(), detail::bytes(query), query.size(), out, size, answer);
+    }));
+    std::vector<std::pair<std::string, std::string>> fields;
+    for (std::size_t at = 0, end; (end = lines.find('\n', at)) != std::string::npos; at = end + 1) {
+        const std::string line = lines.substr(at, end - at);
+        const std::size_t word = line.find(' ');
+        const bool has_path = word != std::string::npos && word > 0 && line[word - 1] == ':';
+        fields.emplace_back(has_path ? line.substr(0, word - 1) : "", has_path ? line.substr(word + 1) : line);
+    }
+    return fields;
 }
 
 /* Reads the querystring into JSON by a shape, such as {user: {name: text}}. */

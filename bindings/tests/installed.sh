@@ -100,7 +100,7 @@ try_linking() {
         "$({ objdump -T "$shared" | grep -o 'GLIBC_[0-9.]*'; echo GLIBC_2.17; } | sort -uV | tail -n 1)" GLIBC_2.17
     command -v nm >/dev/null && command -v readelf >/dev/null || { echo '  there is no nm or no readelf: what is exported is not tried'; return; }
     same 'what the shared library exports' "$(nm -D --defined-only "$shared" | awk '$2 != "A" { sub(/@.*/, "", $3); print $3 }' | sort)" "$(sort <<<"$calls")"
-    same 'the versions' "$(readelf -W --dyn-syms "$shared" | grep -c ' qs_[a-z]*@@SERDE_QS_1')" "$(wc -l <<<"$calls")"
+    same 'the versions' "$(readelf -W --dyn-syms "$shared" | grep -c ' qs_[a-z_]*@@SERDE_QS_1')" "$(wc -l <<<"$calls")"
     same 'what the static library exports' "$(nm -g --defined-only "$lib/libserde_qs.a" | awk 'NF == 3 { print $3 }' | sort)" "$(sort <<<"$calls")"
     found=$(readelf -dW "$shared")
     same 'the soname' "$(sed -n 's/.*SONAME.*\[\(.*\)\]/\1/p' <<<"$found")" "libserde_qs.so.${version%%.*}"

@@ -12,7 +12,7 @@
 
 `read_as` reads by the type hints of a class, such as a dataclass or a TypedDict, and returns an instance.
 
-`get`, `parse`, `loads`, `read`, `read_as`, `explain`, `write` and `dumps` take settings by keyword:
+`get`, `parse`, `loads`, `read`, `read_as`, `explain`, `explain_fields`, `write` and `dumps` take settings by keyword:
 
 - `max_depth=5`: how many levels of brackets may follow the first key, 100 at most.
 - `form=False`: `True` for form mode, where brackets may be encoded, as browsers send forms; `False` for query mode.
@@ -50,7 +50,7 @@ from ._calls import (
 )
 from ._library import Status
 from ._library import version as __version__
-from ._shapes import Shape, read_as, shape_of
+from ._shapes import Shape, explain_fields, read_as, shape_of
 
 __all__ = [
     "EMPTY_INDEXED",
@@ -66,6 +66,7 @@ __all__ = [
     "dumps",
     "encode",
     "explain",
+    "explain_fields",
     "get",
     "loads",
     "parse",

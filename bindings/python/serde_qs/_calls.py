@@ -188,6 +188,18 @@ def explain(shape: Text, query: Text, **settings: Unpack[Settings]) -> tuple[str
     return (line[:path_len].decode(), line.decode()) if line else None
 
 
+def explain_fields_by_shape(shape: Text, query: Text, **settings: Unpack[Settings]) -> list[tuple[str, str]]:
+    """Explains each field of a struct that a shape doesn't read: the path to the wrong part, and the reason."""
+    lines = _result(library.qs_explain_fields, _settings(**settings), *_sized(shape), *_sized(query)).decode()
+    return [_path_and_reason(line) for line in lines.split("\n")[:-1]]
+
+
+def _path_and_reason(line: str) -> tuple[str, str]:
+    # a path has no blank, and the first word of a reason no colon at its end
+    word, _, reason = line.partition(" ")
+    return (word[:-1], reason) if word.endswith(":") else ("", line)
+
+
 def _text(value: bytes | bytearray, message: str) -> str:
     try:
         return value.decode()

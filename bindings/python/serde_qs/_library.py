@@ -57,6 +57,7 @@ _CALLS: dict[str, list[Any]] = {
     "qs_parse": [*_SETTINGS, *_TEXT],
     "qs_read": [*_SETTINGS, *_TEXT, *_TEXT],
     "qs_explain": [*_SETTINGS, *_TEXT, *_TEXT],
+    "qs_explain_fields": [*_SETTINGS, *_TEXT, *_TEXT],
     "qs_write": [*_SETTINGS, *_TEXT],
     "qs_encode": [ctypes.c_bool, *_TEXT],
     "qs_decode": [*_TEXT],

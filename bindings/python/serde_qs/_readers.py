@@ -30,12 +30,13 @@ def _unread(expected: str, text: str) -> Unread:
 
 class Reader(NamedTuple):
     """What reads a type: its shape, and a function that makes an instance of what the shape reads, or raises `Unread`. If the type can be
-    read from a text, `of_text` does it.
+    read from a text, `of_text` does it. A class has its fields and their readers in `parts`.
     """
 
     shape: str
     make: Callable[[Any], Any]
     of_text: Optional[Callable[[str], Any]] = None
+    parts: tuple[tuple[Field, Reader], ...] = ()
 
 
 class Field(NamedTuple):
@@ -232,8 +233,9 @@ def struct_of(fields: list[Field], readers: list[Reader], make: Callable[..., An
     names = {field.key: field.name for field in fields}
     is_renamed = any(key != name for key, name in names.items())
     shape = f"{{{', '.join(shapes)}}}"
+    parts = tuple(zip(fields, readers))
     if make is dict and not changed:
-        return Reader(shape, itself)
+        return Reader(shape, itself, parts=parts)
 
     def made(value: dict[str, Any]) -> Any:
         key = ""
@@ -246,4 +248,4 @@ def struct_of(fields: list[Field], readers: list[Reader], make: Callable[..., An
             raise
         return make(**({names[key]: part for key, part in value.items()} if is_renamed else value))
 
-    return Reader(shape, made)
+    return Reader(shape, made, parts=parts)

@@ -10,7 +10,7 @@ import types
 import typing
 from typing import TYPE_CHECKING, Any, Callable, NamedTuple, Optional, TypeVar
 
-from ._calls import QuerystringError, encode, explain, read
+from ._calls import QuerystringError, encode, explain, explain_fields_by_shape, read
 from ._library import Status
 from ._readers import TEXTS, Field, Reader, Unread, dict_of, first_of, itself, list_of, optional, struct_of, tuple_of, variants
 
@@ -314,6 +314,45 @@ def read_as(cls: type[T], query: Text, **settings: Unpack[Settings]) -> T:
         return reader.make(value)
     except Unread as unread:
         error = QuerystringError(Status.MISMATCH, 0, str(unread))
-        first, *others = [encode(str(key), settings.get("form", False)) for key in reversed(unread.path)] or [""]
-        error.path = first + "".join(f"[{key}]" for key in others)
+        error.path = _path(unread)
         raise error from None
+
+
+def _path(unread: Unread) -> str:
+    first, *others = [encode(str(key)) for key in reversed(unread.path)] or [""]
+    return first + "".join(f"[{key}]" for key in others)
+
+
+def explain_fields(shape: Text | type, query: Text, **settings: Unpack[Settings]) -> list[tuple[str, str]]:
+    """Explains each field that isn't read, for a page that shows an error beside each of its fields. Returns the path to the wrong part of
+    each, and the reason.
+
+    `shape` is a class, as `read_as` takes it, or a shape of a struct. The path of the first is empty if the querystring can't be parsed or
+    is wrong as a whole. The list is empty if the querystring is read.
+
+        >>> explain_fields("{name: text, age: u8}", "age=300")
+        [('name', 'expected a text, found nothing'), ('age', 'expected u8, found the text "300"')]
+    """
+    if isinstance(shape, (str, bytes, bytearray, memoryview)):
+        return explain_fields_by_shape(shape, query, **settings)
+    reader = _whole_reader(shape, settings.get("max_depth", 5))
+    wrong = explain_fields_by_shape(reader.shape, query, **settings)
+    if wrong and not wrong[0][0]:
+        return wrong
+    named = {path.partition("[")[0]: (path, reason) for path, reason in wrong}
+    each = (named.get(encode(field.key)) or _unmade(field, part, query, settings) for field, part in reader.parts)
+    return [it for it in each if it]
+
+
+def _unmade(field: Field, reader: Reader, query: Text, settings: Settings) -> tuple[str, str] | None:
+    """The path to the part of a field of which no instance is made, and the reason, if its shape reads the field."""
+    if reader.make is itself:
+        return None
+    alone = struct_of([field], [reader], dict)
+    try:
+        alone.make(read(alone.shape, query, **settings))
+    except Unread as unread:
+        return _path(unread), str(unread)
+    except QuerystringError:  # the whole is at fault
+        pass
+    return None

@@ -49,6 +49,16 @@ extern "C" {
         out_size: usize,
         answer: *mut Answer,
     ) -> u32;
+    fn qs_explain_fields(
+        settings: *const Settings,
+        shape: *const u8,
+        shape_size: usize,
+        input: *const u8,
+        input_size: usize,
+        out: *mut u8,
+        out_size: usize,
+        answer: *mut Answer,
+    ) -> u32;
     fn qs_write(settings: *const Settings, json: *const u8, json_size: usize, out: *mut u8, out_size: usize, answer: *mut Answer) -> u32;
     fn qs_encode(form: bool, bytes: *const u8, bytes_size: usize, out: *mut u8, out_size: usize, answer: *mut Answer) -> u32;
     fn qs_decode(bytes: *const u8, bytes_size: usize, out: *mut u8, out_size: usize, answer: *mut Answer) -> u32;
@@ -104,6 +114,22 @@ pub(crate) fn explain(settings: &Settings, shape: &str, input: &[u8]) -> Result<
         status
     })?;
     Ok((!line.is_empty()).then(|| (line[..path_len].to_owned(), line)))
+}
+
+pub(crate) fn explain_fields(settings: &Settings, shape: &str, input: &[u8]) -> Result<Vec<(String, String)>, Error> {
+    // SAFETY: each pointer comes from a borrow that lasts for the call.
+    let lines = text(input.len(), |out, answer| unsafe {
+        qs_explain_fields(settings, shape.as_ptr(), shape.len(), input.as_ptr(), input.len(), out.as_mut_ptr(), out.len(), answer)
+    })?;
+    Ok(lines.split_terminator('\n').map(path_and_reason).collect())
+}
+
+// A path has no blank, and the first word of a reason no colon at its end.
+fn path_and_reason(line: &str) -> (String, String) {
+    match line.split_once(' ') {
+        Some((word, reason)) if word.ends_with(':') => (word[..word.len() - 1].to_owned(), reason.to_owned()),
+        _ => (String::new(), line.to_owned()),
+    }
 }
 
 pub(crate) fn write(settings: &Settings, json: &str) -> Result<String, Error> {

@@ -94,6 +94,26 @@ pub fn explain(shape: &str, query: impl AsRef<[u8]>) -> Result<Option<(String, S
     Settings::default().explain(shape, query)
 }
 
+/// Explains each field of a struct that a shape doesn't read, for a page that shows an error beside each of its fields. Returns the path to
+/// the wrong part of each, and the reason.
+///
+/// The path of the first is empty if the querystring can't be parsed or is wrong as a whole. There are none if the shape reads the
+/// querystring.
+///
+/// # Errors
+///
+/// The same as those of [`explain`].
+///
+/// ```
+/// let wrong = serde_qs_proved::explain_fields("{name: text, age: u8}", "age=300")?;
+/// assert_eq!(wrong[0], ("name".to_owned(), "expected a text, found nothing".to_owned()));
+/// assert_eq!(wrong[1], ("age".to_owned(), "expected u8, found the text \"300\"".to_owned()));
+/// # Ok::<(), serde_qs_proved::Error>(())
+/// ```
+pub fn explain_fields(shape: &str, query: impl AsRef<[u8]>) -> Result<Vec<(String, String)>, Error> {
+    Settings::default().explain_fields(shape, query)
+}
+
 /// Writes the JSON as a querystring.
 ///
 /// # Errors

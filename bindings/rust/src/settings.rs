@@ -105,6 +105,11 @@ impl Settings {
         calls::explain(self, shape, query.as_ref())
     }
 
+    /// Explains each field of a struct that a shape doesn't read, as [`explain_fields`](crate::explain_fields) does.
+    pub fn explain_fields(&self, shape: &str, query: impl AsRef<[u8]>) -> Result<Vec<(String, String)>, Error> {
+        calls::explain_fields(self, shape, query.as_ref())
+    }
+
     /// Writes the JSON as a querystring, as [`write`](crate::write) does.
     pub fn write(&self, json: &str) -> Result<String, Error> {
         calls::write(self, json)

@@ -1,6 +1,7 @@
 /* A line of a table of calls: a call, its settings, a shape or a path, and a text, with tabs between them. The settings are `query`, `form`
  * or `web`, and words after a blank: `depth=N`, `empty` or `unindexed`, `reject`, `length=N`, `pairs=N` and `output=N`. */
 #include <serde_qs.h>
+#include <stdio.h>
 #include <stdlib.h>
 #include <string.h>
 
@@ -72,6 +73,8 @@ static inline uint32_t make_sized(const qs_call *call, size_t shape_len, size_t 
         return qs_read(&call->settings, shape, shape_len, text, len, out, size, answer);
     if (strcmp(call->name, "explain") == 0)
         return qs_explain(&call->settings, shape, shape_len, text, len, out, size, answer);
+    if (strcmp(call->name, "fields") == 0)
+        return qs_explain_fields(&call->settings, shape, shape_len, text, len, out, size, answer);
     if (strcmp(call->name, "write") == 0)
         return qs_write(&call->settings, text, len, out, size, answer);
     if (strcmp(call->name, "encode") == 0)
@@ -81,4 +84,11 @@ static inline uint32_t make_sized(const qs_call *call, size_t shape_len, size_t 
 
 static inline uint32_t make(const qs_call *call, uint8_t *out, size_t size, qs_answer *answer) {
     return make_sized(call, strlen(call->shape), strlen(call->text), out, size, answer);
+}
+
+/* Prints a status, a position and a text, with `|` for a line feed. */
+static inline void print_answer(uint32_t status, const qs_answer *answer, uint8_t *out) {
+    for (size_t i = 0; i < answer->len; i++)
+        out[i] = out[i] == '\n' ? '|' : out[i];
+    printf("%u\t%zu\t%.*s\n", (unsigned)status, answer->position, (int)answer->len, out);
 }

@@ -1,6 +1,5 @@
 /* Makes the call of each line of the standard input, and prints its status, its position and its text. */
 #include "call.h"
-#include <stdio.h>
 
 int main(void) {
     char line[1024];
@@ -15,7 +14,7 @@ int main(void) {
         uint32_t status = make(&call, out, sizeof out, &answer);
         if (answer.len != wanted || (status == QS_OK && wanted > 0 && small != QS_TOO_SMALL))
             printf("a buffer that is too small was not reported: ");
-        printf("%u\t%zu\t%.*s\n", (unsigned)status, answer.position, (int)answer.len, out);
+        print_answer(status, &answer, out);
     }
     return 0;
 }

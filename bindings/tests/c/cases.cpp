@@ -19,6 +19,12 @@ static std::string result_of(const qs_call &call, std::size_t &position) {
         position = why.path.size();
         return why.line;
     }
+    if (name == "fields") {
+        std::string lines;
+        for (const auto &[path, reason] : serde_qs::explain_fields(call.shape, call.text, call.settings))
+            lines += (path.empty() ? "" : path + ": ") + reason + "|";
+        return lines;
+    }
     if (name == "write")
         return serde_qs::write(call.text, call.settings);
     return name == "encode" ? serde_qs::encode(call.text, call.settings.form) : serde_qs::decode(call.text);

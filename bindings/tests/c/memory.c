@@ -1,6 +1,5 @@
 /* Makes the call of the line that is the standard input, once, and prints its status, its position and its text. */
 #include "call.h"
-#include <stdio.h>
 
 int main(void) {
     static char line[1024];
@@ -10,6 +9,6 @@ int main(void) {
         return 1;
     qs_call call = call_of(line);
     uint32_t status = make(&call, out, sizeof out, &answer);
-    printf("%u\t%zu\t%.*s\n", (unsigned)status, answer.position, (int)answer.len, out);
+    print_answer(status, &answer, out);
     return 0;
 }

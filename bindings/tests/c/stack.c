@@ -56,7 +56,8 @@ static void *calls(void *file) {
         const struct shape *it = &shapes[i];
         deepest("read", nested("", DEEPEST_SHAPE - 1, it->open, "u8", it->close, ""), nested(it->key, DEEPEST_SHAPE - 2, it->segment, "=1", "", ""), QS_OK);
         deepest("read", nested("", DEEPEST_SHAPE - 1, it->open, "u8", it->close, ""), nested(it->key, DEEPEST_SHAPE - 2, it->segment, "=x", "", ""), QS_MISMATCH);
-        deepest("explain", nested("", DEEPEST_SHAPE - 1, it->open, "u8", it->close, ""), nested(it->key, DEEPEST_SHAPE - 2, it->segment, "=x", "", ""), QS_OK);
+        for (const char **name = (const char *[]){"explain", "fields", NULL}; *name != NULL; name++)
+            deepest(*name, nested("", DEEPEST_SHAPE - 1, it->open, "u8", it->close, ""), nested(it->key, DEEPEST_SHAPE - 2, it->segment, "=x", "", ""), QS_OK);
     }
     deepest("write", "", nested("", DEEPEST, "{\"a\":", "1", "}", ""), QS_OK);
     deepest("write", "", nested("", DEEPEST_JSON - 1, "{\"a\":", "1", "}", ""), QS_TOO_DEEP);

@@ -48,6 +48,9 @@ for line in sys.stdin:
         elif call == "explain":
             path, result = serde_qs.explain(shape, text, **settings) or ("", "")
             position = len(path)
+        elif call == "fields":
+            fields = serde_qs.explain_fields(shape, text, **settings)
+            result = "".join((f"{path}: " if path else "") + f"{reason}|" for path, reason in fields)
         elif call == "write":
             # the module json would take what isn't JSON no further
             result = _calls._result(_calls.library.qs_write, _calls._settings(**settings), *_calls._sized(text)).decode()

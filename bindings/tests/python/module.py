@@ -327,6 +327,15 @@ class Shapes(unittest.TestCase):
         for query in ("city=x&floor=200", "floor=1", "city[a]=1"):
             self.assertRaises(serde_qs.QuerystringError, serde_qs.read_as, Address, query)
 
+    def test_each_wrong_field_is_explained(self):
+        form = dataclasses.make_dataclass("Form", [("name", str), ("price", decimal.Decimal), ("home", Address), ("ids", typing.List[int])])
+        text, wrong = "expected a text, found nothing", serde_qs.explain_fields(form, "price=x&home[floor]=1&ids[]=1&ids[]=y")
+        number = ("price", 'expected a number, found the text "x"')
+        self.assertEqual(wrong, [("name", text), number, ("home[city]", text), ("ids[1]", 'expected i64, found the text "y"')])
+        self.assertEqual(serde_qs.explain_fields(form, "name=a&price=x&home[city]=Ely&ids[]=1"), [number])
+        self.assertEqual(serde_qs.explain_fields(form, "name=a&price=1&home[city]=Ely&ids[]=1"), [])
+        self.assertEqual([path for path, _ in serde_qs.explain_fields(form, "a[")], [""])
+
 
 def load_tests(loader, tests, pattern):
     for module in (serde_qs, _shapes):

@@ -53,6 +53,10 @@ fn main() {
                 position = path.len();
                 line
             }),
+            "fields" => settings.explain_fields(shape, text).map(|fields| {
+                let line = |(path, reason)| if path == "" { format!("{reason}|") } else { format!("{path}: {reason}|") };
+                fields.into_iter().map(line).collect()
+            }),
             "write" => settings.write(text),
             "encode" => settings.encode(text),
             _ => decode(text).map(|bytes| String::from_utf8_lossy(&bytes).into_owned()),

@@ -3,6 +3,7 @@ pub mod Composed
 pub mod Found
 mod Levels
 pub mod LineStarts
+pub mod Lines
 pub mod Listing
 pub mod Messages
 pub mod Outcomes

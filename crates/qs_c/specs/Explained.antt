@@ -1,5 +1,5 @@
 -- An explanation as a line, and why there is none.
-use Rattle.std.specs.Prelude.{◌≡◌, ℕ, false, List, [], ◌++◌, length, map, Option, Some, None, Ok}
+use Rattle.std.specs.Prelude.{◌≡◌, ℕ, false, List, [], ◌∷◌, ◌++◌, length, map, Option, Some, None, Ok}
 use Rattle.std.specs.declared.alloc.AllocError.{AllocError}
 use Rattle.qs_spec.specs.Config.{Config}
 use Rattle.qs_spec.specs.Segment.{segment_text}
@@ -7,6 +7,7 @@ use Rattle.qs_spec.specs.Shape.{Shape}
 use Rattle.qs_spec.specs.Written.{path_text}
 use Rattle.qs_data.specs.failure.Mismatch.{path_of}
 use Rattle.qs_explain.specs.Explains.{Explains, ExplainsUnread}
+use Rattle.qs_explain.specs.Fields.{ExplainsFields}
 use Rattle.qs_explain.specs.declared.explanation.Explanation.{Explanation}
 use Rattle.qs_explain.specs.declared.explanation.Explanation.TheVariants.{Mismatch}
 use Rattle.qs_c.specs.declared.failure.FailureKind.{FailureKind}
@@ -37,6 +38,19 @@ pub record IsExplained (config : Config) (notation input line : List ℕ) (len :
   pub explains : Explains {E = AllocError} config shape input (Ok explanation)
   pub related : ExplainsUnread {E = AllocError} config shape input (Ok explanation)
   pub is_line : IsLine explanation line len
+
+-- the line of each explanation, one after another, each with a line feed after it
+abbrev pub AreLines : List Explanation → List ℕ → Type 0
+AreLines [] text = text ≡ []
+AreLines (x ∷ xs) text = (line : List ℕ) × (len : ℕ) × (rest : List ℕ) × IsLine (Some x) line len × AreLines xs rest × (text ≡ line ++ 10 ∷ rest)
+
+-- The notation is a shape, and the lines explain each field that that shape doesn't read.
+pub record AreExplained (config : Config) (notation input text : List ℕ) : Type 0 where
+  pub shape : Shape
+  pub is_shape : IsNotation notation shape
+  pub explanations : List Explanation
+  pub explains : ExplainsFields config shape input explanations
+  pub are_lines : AreLines explanations text
 
 -- what holds if the call fails with an error of this kind at this position
 abbrev pub WhyNotExplained : FailureKind → ℕ → Settings → List ℕ → List ℕ → Type 0

@@ -1,6 +1,6 @@
 //! Explaining why a shape doesn't read a querystring.
 
-ghost use Rattle.std.specs.Prelude.{◌≡◌, ◌++◌, false, List, ℕ, IfOk, IfErr, OnOk, map};
+ghost use Rattle.std.specs.Prelude.{◌≡◌, ◌++◌, false, List, ℕ, Some, IfOk, IfErr, OnOk, map};
 ghost use Rattle.std.specs.Str.{IsUtf8};
 ghost use Rattle.qs_spec.specs.Escape.{encoded};
 ghost use Rattle.qs_spec.specs.Segment.{segment_text};
@@ -104,17 +104,26 @@ fn explained(
     settings.test_input(alloc, input)?;
     let shape = shape_of_text(alloc, shape)?;
     let explanation = explain(alloc, config, &shape, input)?;
-    Ok(line_of(alloc, &explanation)?)
+    Ok(line_or_none(alloc, &explanation)?)
 }
 
-// Returns the explanation as a line.
-fn line_of(alloc: Global, explanation: &Option<Explanation>) -> Result<Line, AllocError>
+// Returns the explanation as a line, which is empty if there is none.
+fn line_or_none(alloc: Global, explanation: &Option<Explanation>) -> Result<Line, AllocError>
     ensures { IfOk result (λ line. IsLine explanation.now line.text.items line.path_len) }
 {
     match explanation {
+        Some(explanation) => line_of(alloc, explanation),
         None => Ok(whole(Vec::new(alloc))),
-        Some(Explanation::Mismatch(mismatch)) => mismatch_line(alloc, mismatch),
-        Some(other) => Ok(whole(other.to_string(alloc)?.into_bytes())),
+    }
+}
+
+/// Returns the explanation as a line.
+pub(crate) fn line_of(alloc: Global, explanation: &Explanation) -> Result<Line, AllocError>
+    ensures { IfOk result (λ line. IsLine (Some explanation.now) line.text.items line.path_len) }
+{
+    match explanation {
+        Explanation::Mismatch(mismatch) => mismatch_line(alloc, mismatch),
+        other => Ok(whole(other.to_string(alloc)?.into_bytes())),
     }
 }
 

@@ -9,6 +9,7 @@ mod errors;
 pub mod escaping;
 pub mod explaining;
 mod failure;
+pub mod fields;
 pub mod getting;
 mod limits;
 mod notation;

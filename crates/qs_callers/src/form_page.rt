@@ -1,10 +1,10 @@
-//! The reply to a web form: the value that was sent, or a message beside the wrong field.
+//! The reply to a web form: the value that was sent, or a message beside each wrong field.
 
 ghost use Rattle.std.specs.Prelude.{true};
 ghost use Rattle.qs_callers.specs.Reply.{Replies};
 ghost use Rattle.qs_spec.specs.Config.{default};
 
-use qs_explain::{Explanation, Mismatch, explain, find_hint, find_pair};
+use qs_explain::{Explanation, Mismatch, explain_fields, find_hint, find_pair};
 use serde_qs::{Config, Deserialize, Error, Rejection, Result, Shape, read_explained};
 use std::alloc::{AllocError, Global};
 
@@ -17,40 +17,62 @@ pub struct FieldError {
     pub message: String,
 }
 
-/// Returns the value that is read from a form, or the error of its wrong field if no value is read.
+/// Returns the value that is read from a form, or the errors of its wrong fields if no value is read.
 ///
 /// The only error is that an allocation failed.
 ///
 /// ```
-/// let reply = submitted::<Person>(alloc, b"name=Alice&age=300")?; // of the field `age`: expected u8, found the text "300"
+/// let reply = submitted::<Person>(alloc, b"age=300")?; // of `name`: expected a text, found nothing; of `age`: expected u8, found the text "300"
 /// ```
 #[tactic(auto, using(crate::proofs::Unread::unread))]
 pub fn submitted<T: Deserialize>(
     alloc: Global,
     form: &[u8],
-) -> Result<std::result::Result<T, FieldError>>
+) -> Result<std::result::Result<T, Vec<FieldError>>>
     ensures { Replies T.table.value (record default { is_form = true }) T.table.shape T.table.meaning form.now result }
 {
     let config = Config::new().use_form_encoding(true);
     match read_explained(alloc, config, form)? {
         Ok(value) => Ok(Ok(value)),
-        Err(rejection) => Ok(Err(field_error(alloc, config, &T::shape(alloc)?, form, &rejection)?)),
+        Err(rejection) => Ok(Err(field_errors(
+            alloc,
+            config,
+            &T::shape(alloc)?,
+            form,
+            &rejection,
+        )?)),
     }
 }
 
-// Returns the error of a form from which no value is read.
-fn field_error(
+// Returns the errors of a form from which no value is read.
+fn field_errors(
     alloc: Global,
     config: Config,
     shape: &Shape,
     form: &[u8],
     rejection: &Rejection,
+) -> std::result::Result<Vec<FieldError>, AllocError> {
+    let mut wrong = Vec::new(alloc);
+    for explanation in explain_fields(alloc, config, shape, form)? {
+        wrong.push(field_error(alloc, config, form, &explanation)?)?;
+    }
+    if wrong.is_empty() {
+        wrong.push(of_type(alloc, rejection)?)?;
+    }
+    Ok(wrong)
+}
+
+// Returns the error of an explanation.
+fn field_error(
+    alloc: Global,
+    config: Config,
+    form: &[u8],
+    explanation: &Explanation,
 ) -> std::result::Result<FieldError, AllocError> {
-    let wrong = match explain(alloc, config, shape, form)? {
-        Some(Explanation::Mismatch(mismatch)) => of_mismatch(alloc, &mismatch)?,
-        Some(Explanation::Syntax(error)) => of_syntax(alloc, config, form, &error)?,
-        Some(Explanation::NoPairs) => of_the_whole(alloc, &Explanation::NoPairs)?,
-        None => of_type(alloc, rejection)?,
+    let wrong = match explanation {
+        Explanation::Mismatch(mismatch) => of_mismatch(alloc, mismatch)?,
+        Explanation::Syntax(error) => of_syntax(alloc, config, form, error)?,
+        Explanation::NoPairs => of_the_whole(alloc, explanation)?,
     };
     with_hint(alloc, config, form, wrong)
 }

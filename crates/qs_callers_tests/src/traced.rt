@@ -144,12 +144,15 @@ fn lines_for_users(rt: HostRuntime) {
         line.as_str(),
         "b: invalid type: data, expected an age below 150",
     );
-    let wrong: FieldError = match submitted::<Pair<Age, Pair<Age, Age>>>(
+    let mut reports: Vec<FieldError> = match submitted::<Pair<Age, Pair<Age, Age>>>(
         alloc,
         b"a=1&b[a]=2&b[b]=150",
     ) {
-        Ok(Err(wrong)) => wrong,
+        Ok(Err(reports)) => reports,
         _ => rt.abort(),
+    };
+    let Some(wrong) = reports.pop() else {
+        rt.abort()
     };
     is_text(&rt, wrong.field.as_str(), "b[b]");
     is_text(

@@ -1,2 +1,3 @@
+pub mod Faults
 pub mod Parsed
 pub mod Related

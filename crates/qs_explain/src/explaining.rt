@@ -50,8 +50,8 @@ fn explain_parsed(
     }
 }
 
-// Explains why a tree isn't read.
-fn explain_tree(
+/// Explains why a tree isn't read.
+pub(crate) fn explain_tree(
     alloc: Global,
     config: Config,
     shape: &Shape,

@@ -13,12 +13,14 @@
 
 mod explaining;
 mod explanation;
+mod fields;
 mod hint;
 mod pair_range;
 mod state;
 
 pub use explaining::explain;
 pub use explanation::Explanation;
+pub use fields::explain_fields;
 pub use hint::{Hint, find_hint};
 pub use pair_range::{PairRange, find_pair};
 pub use qs_data::{Actual, Config, Expected, Mismatch, Problem, Segment, Shape};

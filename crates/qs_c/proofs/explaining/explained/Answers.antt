@@ -17,5 +17,5 @@ returns-clause-line c =
       explanation = x;
       explains = subst (λ (g : Config). Explains {E = AllocError} g s input (Ok x)) same c.in_ok-explanation.ensures.exact;
       related = subst (λ (g : Config). ExplainsUnread {E = AllocError} g s input (Ok x)) same (c.in_ok-explanation.ensures.related c.in_ok-shape.ensures.distinct);
-      is_line = c.in_ok-line_of.ensures;
+      is_line = c.in_ok-line_or_none.ensures;
     }

@@ -327,8 +327,8 @@ def explain_fields(shape: Text | type, query: Text, **settings: Unpack[Settings]
     """Explains each field that isn't read, for a page that shows an error beside each of its fields. Returns the path to the wrong part of
     each, and the reason.
 
-    `shape` is a class, as `read_as` takes it, or a shape of a struct. The path of the first is empty if the querystring can't be parsed or
-    is wrong as a whole. The list is empty if the querystring is read.
+    `shape` is a class, as `read_as` takes it, or a shape. Of one without fields only the first wrong part is explained. The path of the
+    first is empty if the querystring can't be parsed or is wrong as a whole. The list is empty if the querystring is read.
 
         >>> explain_fields("{name: text, age: u8}", "age=300")
         [('name', 'expected a text, found nothing'), ('age', 'expected u8, found the text "300"')]
@@ -337,11 +337,22 @@ def explain_fields(shape: Text | type, query: Text, **settings: Unpack[Settings]
         return explain_fields_by_shape(shape, query, **settings)
     reader = _whole_reader(shape, settings.get("max_depth", 5))
     wrong = explain_fields_by_shape(reader.shape, query, **settings)
+    if not reader.parts:
+        return wrong or _unread(shape, query, settings)
     if wrong and not wrong[0][0]:
         return wrong
     named = {path.partition("[")[0]: (path, reason) for path, reason in wrong}
     each = (named.get(encode(field.key)) or _unmade(field, part, query, settings) for field, part in reader.parts)
     return [it for it in each if it]
+
+
+def _unread(cls: Any, query: Text, settings: Settings) -> list[tuple[str, str]]:
+    """The path to the part of a type without fields that isn't read, and the reason; nothing if it is read."""
+    try:
+        read_as(cls, query, **settings)
+    except QuerystringError as error:
+        return [(error.path, str(error))]
+    return []
 
 
 def _unmade(field: Field, reader: Reader, query: Text, settings: Settings) -> tuple[str, str] | None:

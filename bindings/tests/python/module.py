@@ -335,6 +335,10 @@ class Shapes(unittest.TestCase):
         self.assertEqual(serde_qs.explain_fields(form, "name=a&price=x&home[city]=Ely&ids[]=1"), [number])
         self.assertEqual(serde_qs.explain_fields(form, "name=a&price=1&home[city]=Ely&ids[]=1"), [])
         self.assertEqual([path for path, _ in serde_qs.explain_fields(form, "a[")], [""])
+        prices = typing.List[decimal.Decimal]
+        self.assertEqual([serde_qs.explain_fields(prices, query) for query in ("0=1&1=x", "0=1&1[a]=2", "0=1")], [
+            [("1", 'expected a number, found the text "x"')], [("1", "expected a text, found nested keys")], []
+        ])
 
 
 def load_tests(loader, tests, pattern):

@@ -25,8 +25,8 @@ use std::alloc::{AllocError, Global};
 ///
 /// The lines are in the order of the fields. Each has the form of a line of [`qs_explain`](crate::explaining::qs_explain): the path to
 /// the wrong part, written as a key, a colon, a space and the reason; and a line feed is after it. If the whole is at fault, its line is
-/// the first and has no path. It is the only line if the querystring can't be parsed, or if the shape isn't a struct and not a part of it
-/// is at fault. There is no line if the shape reads the querystring.
+/// the first and has no path. If the querystring can't be parsed, or the shape isn't a struct, the line of
+/// [`qs_explain`](crate::explaining::qs_explain) is the only one. There is no line if the shape reads the querystring.
 ///
 /// Returns the same statuses as [`qs_explain`](crate::explaining::qs_explain). The position is 0 except with status 7.
 ///
